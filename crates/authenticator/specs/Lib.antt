@@ -1,0 +1,2 @@
+pub mod Authenticator
+pub mod ClosedForm

@@ -1,0 +1,1 @@
+// The authenticator: the accumulator and its register. Its definitions are in specs/.

@@ -1,0 +1,5 @@
+pub mod Shift
+pub mod Sum
+pub mod Word
+pub mod Packing
+pub mod Flip

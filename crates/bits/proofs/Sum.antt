@@ -1,0 +1,94 @@
+-- The sum of bits, and the sum of strings of bits: a commutative sum in which everything is its own inverse.
+-- Assumes nothing.
+use mathlib.Core.Path.{_≡_, refl, sym, ap, ap₂, _∙_}
+use mathlib.Core.Bool.{Bool, true, false, not, _&&_, Bool·not-not}
+use mathlib.Core.List.{List, [], _∷_, _++_}
+use Prim.Native.Nat.{ℕ, zero, suc, _≤_}
+use native.Mathlib.Nat.{suc-inj, le-of-suc-le-suc, not-suc-le-zero, le-refl, le-of-eq}
+use lib.ListN.{length, getD}
+use Rattle.bits.specs.Bit.{_⊻_}
+use Rattle.bits.specs.Strings.{_⊞_, zeros}
+
+pub xor-false : (a : Bool) → a ⊻ false ≡ a
+xor-false true = refl
+xor-false false = refl
+
+pub xor-self : (a : Bool) → a ⊻ a ≡ false
+xor-self true = refl
+xor-self false = refl
+
+pub xor-comm : (a b : Bool) → a ⊻ b ≡ b ⊻ a
+xor-comm true true = refl
+xor-comm true false = refl
+xor-comm false true = refl
+xor-comm false false = refl
+
+not-xor : (a b : Bool) → not a ⊻ b ≡ not (a ⊻ b)
+not-xor true b = sym (Bool·not-not b)
+not-xor false b = refl
+
+pub xor-assoc : (a b c : Bool) → a ⊻ b ⊻ c ≡ a ⊻ (b ⊻ c)
+xor-assoc true b c = not-xor b c
+xor-assoc false b c = refl
+
+pub sum-nil : (s : List Bool) → s ⊞ [] ≡ s
+unfolding _⊞_
+sum-nil [] = refl
+sum-nil (a ∷ s) = refl
+
+pub sum-comm : (s t : List Bool) → s ⊞ t ≡ t ⊞ s
+unfolding _⊞_
+sum-comm [] t = sym (sum-nil t)
+sum-comm (a ∷ s) [] = refl
+sum-comm (a ∷ s) (b ∷ t) = ap₂ _∷_ (xor-comm a b) (sum-comm s t)
+
+pub sum-assoc : (s t u : List Bool) → s ⊞ t ⊞ u ≡ s ⊞ (t ⊞ u)
+unfolding _⊞_
+sum-assoc [] t u = refl
+sum-assoc (a ∷ s) [] u = refl
+sum-assoc (a ∷ s) (b ∷ t) [] = refl
+sum-assoc (a ∷ s) (b ∷ t) (c ∷ u) = ap₂ _∷_ (xor-assoc a b c) (sum-assoc s t u)
+
+pub sum-left-comm : (s t u : List Bool) → s ⊞ (t ⊞ u) ≡ t ⊞ (s ⊞ u)
+sum-left-comm s t u = sym (sum-assoc s t u) ∙ ap (λ (r : List Bool). r ⊞ u) (sum-comm s t) ∙ sum-assoc t s u
+
+pub sum-self : (s : List Bool) → s ⊞ s ≡ zeros (length s)
+unfolding _⊞_
+sum-self [] = refl
+sum-self (a ∷ s) = ap₂ _∷_ (xor-self a) (sum-self s)
+
+pub sum-zeros : (s : List Bool) (n : ℕ) → n ≤ length s → s ⊞ zeros n ≡ s
+unfolding _⊞_
+sum-zeros [] zero h = refl
+sum-zeros [] (suc n) h = absurd (not-suc-le-zero h)
+sum-zeros (a ∷ s) zero h = refl
+sum-zeros (a ∷ s) (suc n) h = ap₂ _∷_ (xor-false a) (sum-zeros s n (le-of-suc-le-suc h))
+
+pub length-sum : (s t : List Bool) → length s ≡ length t → length (s ⊞ t) ≡ length s
+unfolding _⊞_
+length-sum [] t e = sym e
+length-sum (a ∷ s) [] e = refl
+length-sum (a ∷ s) (b ∷ t) e = ap suc (length-sum s t (suc-inj e))
+
+pub sum-append : (s t u v : List Bool) → length s ≡ length t → (s ++ u) ⊞ (t ++ v) ≡ (s ⊞ t) ++ (u ⊞ v)
+unfolding _⊞_
+sum-append [] [] u v e = refl
+sum-append [] (b ∷ t) u v e = absurd (not-suc-le-zero (le-of-eq (sym e)))
+sum-append (a ∷ s) [] u v e = absurd (not-suc-le-zero (le-of-eq e))
+sum-append (a ∷ s) (b ∷ t) u v e = ap (λ (r : List Bool). (a ⊻ b) ∷ r) (sum-append s t u v (suc-inj e))
+
+-- The sum at one place.
+pub getD-sum : (s t : List Bool) (i : ℕ) → getD (s ⊞ t) i false ≡ getD s i false ⊻ getD t i false
+unfolding _⊞_
+getD-sum [] t i = refl
+getD-sum (a ∷ s) [] i = sym (xor-false (getD (a ∷ s) i false))
+getD-sum (a ∷ s) (b ∷ t) zero = refl
+getD-sum (a ∷ s) (b ∷ t) (suc i) = getD-sum s t i
+
+-- A string added twice adds nothing.
+pub sum-twice : (s t : List Bool) → length s ≤ length t → s ⊞ (s ⊞ t) ≡ t
+sum-twice s t h = sym (sum-assoc s s t) ∙ ap (λ (r : List Bool). r ⊞ t) (sum-self s) ∙ sum-comm (zeros (length s)) t ∙ sum-zeros t (length s) h
+
+-- What is added to one string on both sides of an equation may be left out.
+pub sum-cancel : (s t u : List Bool) → length s ≤ length t → length s ≤ length u → s ⊞ t ≡ s ⊞ u → t ≡ u
+sum-cancel s t u h k e = sym (sum-twice s t h) ∙ ap (λ (r : List Bool). s ⊞ r) e ∙ sum-twice s u k

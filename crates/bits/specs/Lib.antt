@@ -1,0 +1,3 @@
+pub mod Bit
+pub mod Bytes
+pub mod Strings

@@ -1,0 +1,21 @@
+-- Strings of bits: the place-by-place sum, and a register that moves.
+use mathlib.Core.Bool.{Bool, false}
+use mathlib.Core.List.{List, [], _∷_, _++_}
+use Prim.Native.Nat.{ℕ}
+use lib.ListN.{drop, replicate}
+use Rattle.bits.specs.Bit.{_⊻_}
+
+infixl 60 _⊞_
+-- The sum of two strings, place by place. The shorter one is continued with zeros.
+unfoldable pub _⊞_ : List Bool → List Bool → List Bool
+[] ⊞ t = t
+(a ∷ s) ⊞ [] = a ∷ s
+(a ∷ s) ⊞ (b ∷ t) = (a ⊻ b) ∷ (s ⊞ t)
+
+-- n zeros
+abbrev pub zeros : ℕ → List Bool
+zeros n = replicate n false
+
+-- A register moves one place down, and its last place takes the new bit.
+abbrev pub shift {ℓ} : {A : Type ℓ} → List A → A → List A
+shift r new = drop 1 r ++ (new ∷ [])

@@ -1,0 +1,146 @@
+-- Demands 1 and 2: the rows decide, and opening accepts exactly what some message makes.
+-- Assumes nothing.
+use mathlib.Core.Path.{_≡_, refl, sym, ap, ap₂, _∙_, subst}
+use mathlib.Core.Bool.{Bool, cond}
+use mathlib.Core.List.{List, [], _∷_, _++_}
+use Prim.Native.Nat.{ℕ, _+_, _-_, _≤_}
+use native.Mathlib.Omega.{arith}
+use borrow.Author.Tests.{ltb-false, le-ltb, eq-eqb}
+use lib.ListN.{length, length-append, length-take}
+use Rattle.bits.specs.Bytes.{Bytes, bits}
+use Rattle.bits.proofs.Packing.{bytes-are-bytes}
+use Rattle.grain128aead.specs.declared.Refusal.the-variants.{TagDiffers}
+use Rattle.grain128aead.specs.Sizes.{keySize, nonceSize, tagSize, adLimit, messageLimit}
+use Rattle.grain128aead.specs.Machine.{decipher}
+use Rattle.grain128aead.specs.Payload.{begun, ciphertext, deciphered, tag, payload, ciphertextPart, tagPart}
+use Rattle.grain128aead.specs.Refusals.{Outcome, order, judged, refused, success}
+use Rattle.grain128aead.specs.Calls.{rows, sealingRow, sealed, recovered, openingRow, opened, tagDiffers}
+use Rattle.grain128aead.specs.Demand1.{Demand1, Accepts}
+use Rattle.grain128aead.specs.Demand2.{Legal, Makes, Sealing, Demand2}
+use Rattle.grain128aead.proofs.Payload.{ciphertextPart-joined, tagPart-joined, parts-join, ciphertextPart-bytes, lengths, length-ciphertext, length-deciphered, deciphered-bytes, length-tag, length-payload, deciphered-ciphertext, ciphertext-deciphered}
+use Rattle.grain128aead.proofs.Refusals.{demand1}
+use Rattle.grain128aead.proofs.Rows.{Clear, rows-clear, clear-rows, Authentic, tag-authentic, authentic-tag}
+
+module _ (key nonce ad message out : List ℕ) where
+  pub demand1-sealing : Demand1 (sealingRow key nonce ad message out) (payload key nonce ad message) out (sealed key nonce ad message out)
+  unfolding sealed
+  demand1-sealing = demand1 (sealingRow key nonce ad message out) (payload key nonce ad message) out
+
+  accepted : Legal key nonce ad message → length message + tagSize ≤ length out → Accepts (sealed key nonce ad message out)
+  accepted legal room = demand1-sealing .accepts .1 (clear-rows key nonce ad _ _ _ _ record {
+    keySized = legal .keySized;
+    nonceSized = legal .nonceSized;
+    adFits = legal .adFits;
+    fits = le-ltb messageLimit (length message) (legal .messageFits);
+    reaches = refl;
+    room = le-ltb (length out) (length message + tagSize) room;
+    authentic = refl;
+  })
+
+  legal : Accepts (sealed key nonce ad message out) → Legal key nonce ad message × (length message + tagSize ≤ length out)
+  legal a =
+      let c = rows-clear key nonce ad _ _ _ _ (demand1-sealing .accepts .0 a) in (
+        record { keySized = c .keySized; nonceSized = c .nonceSized; adFits = c .adFits; messageFits = ltb-false messageLimit (length message) (c .fits) },
+        ltb-false (length out) (length message + tagSize) (c .room),
+      )
+
+  pub sealing : Sealing key nonce ad message out (sealed key nonce ad message out)
+  sealing = record { accepts = (legal, λ h. accepted (h .0) (h .1)); seals = λ l room. demand1-sealing .writes (accepted l room) }
+
+module _ (key nonce ad input out : List ℕ) where
+  pub demand1-opening : Demand1 (openingRow key nonce ad input out) (recovered key nonce ad input) out (opened key nonce ad input out)
+  unfolding opened
+  demand1-opening = demand1 (openingRow key nonce ad input out) (recovered key nonce ad input) out
+
+  -- The sizes are in order.
+  pub record InOrder : Type 0 where
+    pub keySized : length key ≡ keySize
+    pub nonceSized : length nonce ≡ nonceSize
+    pub adFits : length ad ≤ adLimit
+    pub inputFits : length input ≤ messageLimit + tagSize
+    pub reaches : tagSize ≤ length input
+    pub room : length input - tagSize ≤ length out
+
+  pub legal-in-order : (m : List ℕ) → Legal key nonce ad m → length input ≡ length m + tagSize → length m ≤ length out → InOrder
+  legal-in-order m l e room = record {
+    keySized = l .keySized;
+    nonceSized = l .nonceSized;
+    adFits = l .adFits;
+    inputFits = omega (arith, l .messageFits);
+    reaches = omega arith;
+    room = omega arith;
+  }
+
+  -- With the sizes in order only row 7 is left.
+  pub opening-tag : InOrder → opened key nonce ad input out ≡ cond (tagDiffers key nonce ad input) (refused TagDiffers out) (success (recovered key nonce ad input) out)
+  unfolding opened judged order rows
+  opening-tag o =
+      simp (
+        eq-eqb (length key) keySize (o .keySized),
+        eq-eqb (length nonce) nonceSize (o .nonceSized),
+        le-ltb adLimit (length ad) (o .adFits),
+        le-ltb (messageLimit + tagSize) (length input) (o .inputFits),
+        le-ltb (length input) tagSize (o .reaches),
+        le-ltb (length out) (length input - tagSize) (o .room),
+      )
+
+  pub opening-in-order : Accepts (opened key nonce ad input out) → InOrder × Authentic key nonce ad input
+  opening-in-order a =
+      let c = rows-clear key nonce ad _ _ _ _ (demand1-opening .accepts .0 a) in (
+        record {
+          keySized = c .keySized;
+          nonceSized = c .nonceSized;
+          adFits = c .adFits;
+          inputFits = ltb-false (messageLimit + tagSize) (length input) (c .fits);
+          reaches = ltb-false (length input) tagSize (c .reaches);
+          room = ltb-false (length out) (length input - tagSize) (c .room);
+        },
+        tag-authentic key nonce ad input (c .authentic),
+      )
+
+  -- An authentic input of the right sizes is made by the message that it hides.
+  authentic-makes : InOrder → Bytes input → Authentic key nonce ad input → Makes key nonce ad (recovered key nonce ad input) input
+  unfolding recovered payload
+  authentic-makes o b authentic = record {
+    isBytes = deciphered-bytes key nonce ad (ciphertextPart input);
+    legal = record {
+      keySized = o .keySized;
+      nonceSized = o .nonceSized;
+      adFits = o .adFits;
+      messageFits = omega (arith, length-deciphered key nonce ad (ciphertextPart input), lengths key nonce ad [] input .ciphertextPart (o .reaches), o .inputFits);
+    };
+    made =
+        ap₂ _++_ (ciphertext-deciphered key nonce ad (ciphertextPart input) (ciphertextPart-bytes input (o .reaches) b)) (sym authentic)
+        ∙ parts-join input (o .reaches);
+  }
+
+  -- What a message makes hides that message, and is authentic.
+  makes-recovered : (m : List ℕ) → Makes key nonce ad m input → recovered key nonce ad input ≡ m
+  unfolding recovered payload
+  makes-recovered m makes =
+      ap (deciphered key nonce ad) (ap ciphertextPart (sym (makes .made)) ∙ ciphertextPart-joined (ciphertext key nonce ad m) (tag key nonce ad m) (length-tag key nonce ad m))
+      ∙ deciphered-ciphertext key nonce ad m (makes .isBytes)
+
+  makes-authentic : (m : List ℕ) → Makes key nonce ad m input → Authentic key nonce ad input
+  unfolding payload
+  makes-authentic m makes =
+      ap tagPart (sym (makes .made)) ∙ tagPart-joined (ciphertext key nonce ad m) (tag key nonce ad m) (length-tag key nonce ad m)
+      ∙ ap (tag key nonce ad) (sym (makes-recovered m makes))
+
+  makes-opened : (m : List ℕ) → Makes key nonce ad m input → length m ≤ length out → opened key nonce ad input out ≡ success m out
+  makes-opened m makes room =
+      opening-tag (legal-in-order m (makes .legal) (ap length (sym (makes .made)) ∙ length-payload key nonce ad m) room)
+      ∙ ap₂ (λ (d : Bool) (w : List ℕ). cond d (refused TagDiffers out) (success w out)) (authentic-tag key nonce ad input (makes-authentic m makes)) (makes-recovered m makes)
+
+  pub demand2 : Bytes input → Demand2 key nonce ad input out (opened key nonce ad input out)
+  demand2 b = record {
+    accepts = (accepted-makes, λ h. (length (h .0), ap (λ (o : Outcome). o .answer) (makes-opened (h .0) (h .1) (h .2))));
+    returns = makes-opened;
+    unique = λ m n hm hn. sym (makes-recovered m hm) ∙ makes-recovered n hn;
+  }
+    where
+      accepted-makes : Accepts (opened key nonce ad input out) → (m : List ℕ) × Makes key nonce ad m input × (length m ≤ length out)
+      accepted-makes a =
+          let h = opening-in-order a in
+          let makes = authentic-makes (h .0) b (h .1) in
+          (recovered key nonce ad input, makes, omega (arith, h .0 .room, ap length (makes .made), length-payload key nonce ad (recovered key nonce ad input)))

@@ -1,0 +1,11 @@
+pub mod Machine
+pub mod StartUp
+pub mod AuthenticatedString
+pub mod Clocks
+pub mod Refusals
+pub mod Payload
+pub mod Rows
+pub mod Demand2
+pub mod Tag
+pub mod Demand3
+pub mod Examples

@@ -1,0 +1,81 @@
+-- Laws of the running machine: what it does to a string, as the string's bits, the keystream and the authenticator's own law.
+-- Assumes nothing.
+use mathlib.Core.Path.{_≡_, refl, sym, ap, ap₂, _∙_}
+use mathlib.Core.Bool.{Bool}
+use mathlib.Core.List.{List, [], _∷_, _++_, foldl-append}
+use Prim.Native.Nat.{ℕ, zero, suc}
+use native.Mathlib.Nat.{suc-inj, le-of-eq}
+use native.Mathlib.Omega.{arith}
+use lib.ListN.{length}
+use Rattle.bits.specs.Bit.{_⊻_}
+use Rattle.bits.specs.Strings.{_⊞_, zeros}
+use Rattle.bits.proofs.Sum.{sum-assoc, sum-self, sum-zeros, length-sum}
+use Rattle.preoutput.specs.Algebra.{single}
+use Rattle.preoutput.specs.Generator.{Generator, preoutput, plain}
+use Rattle.preoutput.proofs.Sizes.{clock-sized}
+use Rattle.authenticator.specs.Authenticator.{Authenticator, absorbAll, registerAfter}
+use Rattle.authenticator.proofs.ClosedForm.{independent, absorb-sized}
+use Rattle.grain128aead.specs.Machine.{State, keystreamBit, step, run, encipher, decipher}
+use Rattle.grain128aead.specs.Laws.{Independent, Sized}
+
+pub run-append : (st : State) (s t : List Bool) → run st (s ++ t) ≡ run (run st s) t
+unfolding run
+run-append st s t = foldl-append step st s t
+
+-- The generator sees no bit of the string.
+pub run-generator : (st st′ : State) (s t : List Bool) → st .generator ≡ st′ .generator → length s ≡ length t → run st s .generator ≡ run st′ t .generator
+unfolding run step
+run-generator st st′ [] [] g e = g
+run-generator st st′ [] (b ∷ t) g e = absurd (omega arith)
+run-generator st st′ (a ∷ s) [] g e = absurd (omega arith)
+run-generator st st′ (a ∷ s) (b ∷ t) g e = run-generator (step st a) (step st′ b) s t (ap (λ (h : Generator Bool). plain single (plain single h)) g) (suc-inj e)
+
+-- The bits that the register takes: the pre-output of every second clock.
+pub registerBits : Generator Bool → ℕ → Bool
+registerBits g zero = preoutput single (plain single g)
+registerBits g (suc i) = registerBits (plain single (plain single g)) i
+
+pub run-authenticator : (st : State) (s : List Bool) → run st s .authenticator ≡ absorbAll (st .authenticator) s (registerBits (st .generator))
+unfolding run step absorbAll registerBits
+run-authenticator st [] = refl
+run-authenticator st (m ∷ s) = run-authenticator (step st m) s
+
+pub run-register : (st : State) (s : List Bool) → run st s .authenticator .register ≡ registerAfter (st .authenticator .register) (registerBits (st .generator)) (length s)
+run-register st s = ap (λ (a : Authenticator). a .register) (run-authenticator st s) ∙ independent (st .authenticator) s (registerBits (st .generator))
+
+pub independence : (st : State) (s t : List Bool) → length s ≡ length t → Independent st s t
+unfolding keystreamBit
+independence st s t e = record {
+  generator = run-generator st st s t refl e;
+  register = run-register st s ∙ ap (registerAfter (st .authenticator .register) (registerBits (st .generator))) e ∙ sym (run-register st t);
+  keystream = ap (preoutput single) (run-generator st st s t refl e);
+}
+
+pub run-sized : (st : State) (s : List Bool) → Sized st → Sized (run st s)
+unfolding run step
+run-sized st [] sized = sized
+run-sized st (m ∷ s) sized = run-sized (step st m) s record {
+  generator = clock-sized single 128 _ _ _ (omega arith) (clock-sized single 128 (st .generator) _ _ (omega arith) (sized .generator));
+  authenticator = absorb-sized 64 (st .authenticator) m _ (omega arith) (sized .authenticator);
+}
+
+-- The keystream bits of the next n string bits.
+unfoldable pub keystream : Generator Bool → ℕ → List Bool
+keystream g zero = []
+keystream g (suc n) = preoutput single g ∷ keystream (plain single (plain single g)) n
+
+pub length-keystream : (g : Generator Bool) (n : ℕ) → length (keystream g n) ≡ n
+unfolding keystream
+length-keystream g zero = refl
+length-keystream g (suc n) = ap suc (length-keystream (plain single (plain single g)) n)
+
+-- To encipher and to decipher are both to add the keystream.
+pub encipher-sum : (st : State) (s : List Bool) → encipher st s ≡ s ⊞ keystream (st .generator) (length s)
+unfolding encipher keystreamBit step keystream _⊞_
+encipher-sum st [] = refl
+encipher-sum st (m ∷ s) = ap (λ (r : List Bool). (m ⊻ preoutput single (st .generator)) ∷ r) (encipher-sum (step st m) s)
+
+pub decipher-sum : (st : State) (s : List Bool) → decipher st s ≡ s ⊞ keystream (st .generator) (length s)
+unfolding decipher keystreamBit step keystream _⊞_
+decipher-sum st [] = refl
+decipher-sum st (c ∷ s) = ap (λ (r : List Bool). (c ⊻ preoutput single (st .generator)) ∷ r) (decipher-sum (step st (c ⊻ preoutput single (st .generator))) s)

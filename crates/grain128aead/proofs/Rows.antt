@@ -1,0 +1,61 @@
+-- What it means that no row of a call applies.
+-- Assumes nothing.
+use mathlib.Core.Path.{_≡_, refl, sym, ap, _∙_}
+use mathlib.Core.Bool.{Bool, true, false, not}
+use mathlib.Core.List.{List}
+use Prim.Native.Nat.{ℕ, _+_, _-_, _≤_}
+use borrow.Author.Tests.{ltb-false, le-ltb, eqb-true, eq-eqb, not-false}
+use lib.Dec.{eqb, ltb}
+use lib.ListN.{length}
+use Rattle.bits.specs.Bytes.{same}
+use Rattle.bits.proofs.Packing.{same-equal, equal-same}
+use Rattle.grain128aead.specs.declared.Refusal.{Refusal}
+use Rattle.grain128aead.specs.declared.Refusal.the-variants.{KeySize, NonceSize, AdTooLong, MessageTooLong, SealedTooShort, OutputTooShort, TagDiffers}
+use Rattle.grain128aead.specs.Sizes.{keySize, nonceSize, adLimit}
+use Rattle.grain128aead.specs.Payload.{tag, tagPart}
+use Rattle.grain128aead.specs.Calls.{rows, recovered, tagDiffers}
+
+pub record Clear (key nonce ad : List ℕ) (tooLong tooShort noRoom wrongTag : Bool) : Type 0 where
+  pub keySized : length key ≡ keySize
+  pub nonceSized : length nonce ≡ nonceSize
+  pub adFits : length ad ≤ adLimit
+  pub fits : tooLong ≡ false
+  pub reaches : tooShort ≡ false
+  pub room : noRoom ≡ false
+  pub authentic : wrongTag ≡ false
+
+module _ (key nonce ad : List ℕ) (tooLong tooShort noRoom wrongTag : Bool) where
+  pub rows-clear : ((r : Refusal) → rows key nonce ad tooLong tooShort noRoom wrongTag r ≡ false) → Clear key nonce ad tooLong tooShort noRoom wrongTag
+  unfolding rows
+  rows-clear none = record {
+    keySized = eqb-true (length key) keySize (not-false (eqb (length key) keySize) (none KeySize));
+    nonceSized = eqb-true (length nonce) nonceSize (not-false (eqb (length nonce) nonceSize) (none NonceSize));
+    adFits = ltb-false adLimit (length ad) (none AdTooLong);
+    fits = none MessageTooLong;
+    reaches = none SealedTooShort;
+    room = none OutputTooShort;
+    authentic = none TagDiffers;
+  }
+
+  pub clear-rows : Clear key nonce ad tooLong tooShort noRoom wrongTag → (r : Refusal) → rows key nonce ad tooLong tooShort noRoom wrongTag r ≡ false
+  unfolding rows
+  clear-rows clear KeySize = ap not (eq-eqb (length key) keySize (clear .keySized))
+  clear-rows clear NonceSize = ap not (eq-eqb (length nonce) nonceSize (clear .nonceSized))
+  clear-rows clear AdTooLong = le-ltb adLimit (length ad) (clear .adFits)
+  clear-rows clear MessageTooLong = clear .fits
+  clear-rows clear SealedTooShort = clear .reaches
+  clear-rows clear OutputTooShort = clear .room
+  clear-rows clear TagDiffers = clear .authentic
+
+-- The tag part is the tag of the message that the input would have.
+abbrev pub Authentic : (key nonce ad input : List ℕ) → Type 0
+Authentic key nonce ad input = tagPart input ≡ tag key nonce ad (recovered key nonce ad input)
+
+module _ (key nonce ad input : List ℕ) where
+  pub tag-authentic : tagDiffers key nonce ad input ≡ false → Authentic key nonce ad input
+  unfolding tagDiffers
+  tag-authentic e = same-equal (tagPart input) (tag key nonce ad (recovered key nonce ad input)) (not-false (same (tagPart input) (tag key nonce ad (recovered key nonce ad input))) e)
+
+  pub authentic-tag : Authentic key nonce ad input → tagDiffers key nonce ad input ≡ false
+  unfolding tagDiffers
+  authentic-tag e = ap (λ (t : List ℕ). not (same t (tag key nonce ad (recovered key nonce ad input)))) e ∙ ap not (equal-same (tag key nonce ad (recovered key nonce ad input)))

@@ -1,0 +1,47 @@
+-- Sealing and opening: from key, nonce, AD, message or sealed input and the lent output, byte strings of any length, to the answer and
+-- the output afterwards (document 01, "When the box says no").
+use mathlib.Core.Bool.{Bool, false, not}
+use mathlib.Core.List.{List}
+use Prim.Native.Nat.{ℕ, _+_, _-_}
+use lib.Dec.{eqb, ltb}
+use lib.ListN.{length}
+use Rattle.bits.specs.Bytes.{same}
+use Rattle.grain128aead.specs.declared.Refusal.{Refusal}
+use Rattle.grain128aead.specs.declared.Refusal.the-variants.{KeySize, NonceSize, AdTooLong, MessageTooLong, SealedTooShort, OutputTooShort, TagDiffers}
+use Rattle.grain128aead.specs.Sizes.{keySize, nonceSize, tagSize, adLimit, messageLimit}
+use Rattle.grain128aead.specs.Payload.{payload, deciphered, tag, ciphertextPart, tagPart}
+use Rattle.grain128aead.specs.Refusals.{Outcome, order, judged}
+
+-- When each row applies. Rows 1 to 3 are the same for both calls; for the others a call says whether they apply.
+unfoldable pub rows : (key nonce ad : List ℕ) → (tooLong tooShort noRoom wrongTag : Bool) → Refusal → Bool
+rows key nonce ad tooLong tooShort noRoom wrongTag KeySize = not (eqb (length key) keySize)
+rows key nonce ad tooLong tooShort noRoom wrongTag NonceSize = not (eqb (length nonce) nonceSize)
+rows key nonce ad tooLong tooShort noRoom wrongTag AdTooLong = ltb adLimit (length ad)
+rows key nonce ad tooLong tooShort noRoom wrongTag MessageTooLong = tooLong
+rows key nonce ad tooLong tooShort noRoom wrongTag SealedTooShort = tooShort
+rows key nonce ad tooLong tooShort noRoom wrongTag OutputTooShort = noRoom
+rows key nonce ad tooLong tooShort noRoom wrongTag TagDiffers = wrongTag
+
+-- Rows 5 and 7 do not apply to sealing.
+abbrev pub sealingRow : (key nonce ad message out : List ℕ) → Refusal → Bool
+sealingRow key nonce ad message out =
+    rows key nonce ad (ltb messageLimit (length message)) false (ltb (length out) (length message + tagSize)) false
+
+unfoldable pub sealed : (key nonce ad message out : List ℕ) → Outcome
+sealed key nonce ad message out = judged order (sealingRow key nonce ad message out) (payload key nonce ad message) out
+
+-- The message of a sealed input.
+unfoldable pub recovered : (key nonce ad input : List ℕ) → List ℕ
+recovered key nonce ad input = deciphered key nonce ad (ciphertextPart input)
+
+-- The tag differs from the recomputed one.
+unfoldable pub tagDiffers : (key nonce ad input : List ℕ) → Bool
+tagDiffers key nonce ad input = not (same (tagPart input) (tag key nonce ad (recovered key nonce ad input)))
+
+abbrev pub openingRow : (key nonce ad input out : List ℕ) → Refusal → Bool
+openingRow key nonce ad input out =
+    rows key nonce ad (ltb (messageLimit + tagSize) (length input)) (ltb (length input) tagSize) (ltb (length out) (length input - tagSize))
+    (tagDiffers key nonce ad input)
+
+unfoldable pub opened : (key nonce ad input out : List ℕ) → Outcome
+opened key nonce ad input out = judged order (openingRow key nonce ad input out) (recovered key nonce ad input) out

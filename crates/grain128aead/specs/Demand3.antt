@@ -1,0 +1,59 @@
+-- Demand 3 on the definitions.
+use mathlib.Core.Path.{_≡_}
+use mathlib.Core.Logic.{_↔_}
+use mathlib.Core.Bool.{Bool}
+use mathlib.Core.List.{List, _++_}
+use Prim.Native.Nat.{ℕ, _*_, _≤_}
+use lib.ListN.{length}
+use Rattle.bits.specs.Bytes.{Bytes, flip}
+use Rattle.authenticator.specs.ClosedForm.{registersAt}
+use Rattle.grain128aead.specs.declared.Refusal.the-variants.{TagDiffers}
+use Rattle.grain128aead.specs.Sizes.{adLimit}
+use Rattle.grain128aead.specs.AuthenticatedString.{codedLength, authenticated}
+use Rattle.grain128aead.specs.Laws.{registerAt}
+use Rattle.grain128aead.specs.Refusals.{Outcome, success, refused}
+use Rattle.grain128aead.specs.Demand1.{Accepts}
+use Rattle.grain128aead.specs.Demand2.{Makes}
+
+-- Pairs of AD and message, the AD of legal size, that make the same authenticated string are the same pair.
+abbrev pub Distinct : Type 0
+Distinct =
+    (ad message ad′ message′ : List ℕ) → Bytes ad → Bytes message → Bytes ad′ → Bytes message′
+    → length ad ≤ adLimit → length ad′ ≤ adLimit
+    → authenticated ad message ≡ authenticated ad′ message′ → (ad ≡ ad′) × (message ≡ message′)
+
+-- The exclusive-or of the registers at the flipped data positions. The data, first the AD and then the message, begins after the coded
+-- length; a flipped ciphertext bit has its message bit's position.
+unfoldable pub flippedRegisters : (key nonce ad : List ℕ) → (inAd inCiphertext : List Bool) → List Bool
+flippedRegisters key nonce ad inAd inCiphertext =
+    registersAt 64 (registerAt key nonce) (8 * length (codedLength (length ad))) (inAd ++ inCiphertext)
+
+-- The old AD and message, and the flips: one for each bit of the AD, of the ciphertext and of the tag, none and all of them included.
+pub record Flipped (key nonce ad input : List ℕ) : Type 0 where
+  pub oldAd : List ℕ
+  pub oldMessage : List ℕ
+  pub oldPayload : List ℕ
+  pub genuine : Makes key nonce oldAd oldMessage oldPayload
+  pub inAd : List Bool
+  pub inCiphertext : List Bool
+  pub inTag : List Bool
+  pub adFlips : length inAd ≡ 8 * length oldAd
+  pub ciphertextFlips : length inCiphertext ≡ 8 * length oldMessage
+  pub tagFlips : length inTag ≡ 64
+  pub flippedAd : ad ≡ flip oldAd inAd
+  pub flippedInput : input ≡ flip oldPayload (inCiphertext ++ inTag)
+
+-- The registers at the flipped data positions add up to the tag's flips.
+abbrev pub Agrees : {key nonce ad input : List ℕ} → Flipped key nonce ad input → Type 0
+Agrees {key} {nonce} f = flippedRegisters key nonce (f .oldAd) (f .inAd) (f .inCiphertext) ≡ f .inTag
+
+-- Opening accepts exactly when they do. It then returns the old message with the ciphertext's flips; otherwise it is refusal 7, and the
+-- output is as lent.
+pub record Verdict {key nonce ad input : List ℕ} (f : Flipped key nonce ad input) (out : List ℕ) (o : Outcome) : Type 0 where
+  pub accepts : Accepts o ↔ Agrees f
+  pub returns : Agrees f → o ≡ success (flip (f .oldMessage) (f .inCiphertext)) out
+  pub refuses : ¬ Agrees f → o ≡ refused TagDiffers out
+
+-- Whatever genuine payload and flips the AD and the input come from, and given room for the message.
+abbrev pub Demand3 : (key nonce ad input out : List ℕ) → Outcome → Type 0
+Demand3 key nonce ad input out o = (f : Flipped key nonce ad input) → length (f .oldMessage) ≤ length out → Verdict f out o

@@ -1,0 +1,12 @@
+pub mod Sizes
+pub mod StartUp
+pub mod Machine
+pub mod AuthenticatedString
+pub mod Payload
+pub mod Refusals
+pub mod Calls
+pub mod Laws
+pub mod Demand1
+pub mod Demand2
+pub mod Demand3
+pub mod Examples

@@ -1,0 +1,38 @@
+-- The machine: the pre-output generator and the authenticator, run over a string of bits (source document 000, section 2.3; document
+-- 01, "Running and the tag").
+use mathlib.Core.Bool.{Bool}
+use mathlib.Core.List.{List, [], _∷_, foldl}
+use Rattle.bits.specs.Bit.{_⊻_}
+use Rattle.preoutput.specs.Algebra.{single}
+use Rattle.preoutput.specs.Generator.{Generator, preoutput, plain}
+use Rattle.authenticator.specs.Authenticator.{Authenticator, absorb}
+
+-- The LFSR and the NFSR are the generator's, the accumulator and the register the authenticator's.
+pub record State : Type 0 where
+  pub generator : Generator Bool
+  pub authenticator : Authenticator
+
+-- The pre-output of the first of a string bit's two clocks.
+unfoldable pub keystreamBit : State → Bool
+keystreamBit st = preoutput single (st .generator)
+
+-- One bit of the string, in two plain clocks. The pre-output of the second goes to the register, after the register's content has
+-- been added into the accumulator if the bit is 1.
+unfoldable pub step : State → Bool → State
+step st m = record {
+  generator = plain single (plain single (st .generator));
+  authenticator = absorb (st .authenticator) m (preoutput single (plain single (st .generator)));
+}
+
+unfoldable pub run : State → List Bool → State
+run = foldl step
+
+-- Message bits are enciphered by adding their keystream bits.
+unfoldable pub encipher : State → List Bool → List Bool
+encipher st [] = []
+encipher st (m ∷ s) = (m ⊻ keystreamBit st) ∷ encipher (step st m) s
+
+-- Ciphertext bits are deciphered by adding the same keystream bits; the machine takes the message bits.
+unfoldable pub decipher : State → List Bool → List Bool
+decipher st [] = []
+decipher st (c ∷ s) = (c ⊻ keystreamBit st) ∷ decipher (step st (c ⊻ keystreamBit st)) s

@@ -1,0 +1,13 @@
+-- A clock keeps the sizes of the registers.
+-- Assumes nothing.
+use mathlib.Core.Path.{_≡_}
+use Prim.Native.Nat.{ℕ, _<_}
+use lib.ListN.{length}
+use Rattle.bits.proofs.Shift.{length-shift}
+use Rattle.preoutput.specs.Algebra.{Algebra}
+use Rattle.preoutput.specs.Generator.{Generator, clock, Sized}
+
+module _ {A : Type 0} (over : Algebra A) where
+  pub clock-sized : (n : ℕ) (g : Generator A) (x z : A) → 0 < n → Sized n g → Sized n (clock over g x z)
+  unfolding clock
+  clock-sized n g x z pos sized = record { lfsr = length-shift n (g .lfsr) _ pos (sized .lfsr); nfsr = length-shift n (g .nfsr) _ pos (sized .nfsr) }

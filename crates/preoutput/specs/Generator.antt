@@ -1,0 +1,44 @@
+-- The pre-output generator: its two registers, its clock, and what the clock adds (source document 000, sections 2.1 and 2.2).
+use mathlib.Core.Path.{_≡_}
+use mathlib.Core.List.{List}
+use Prim.Native.Nat.{ℕ}
+use lib.ListN.{length, getD}
+use Rattle.bits.specs.Strings.{shift}
+use Rattle.preoutput.specs.Algebra.{Algebra}
+use Rattle.preoutput.specs.Functions.{y, lfsrBit, nfsrBit}
+
+pub record Generator (A : Type 0) : Type 0 where
+  pub lfsr : List A
+  pub nfsr : List A
+
+-- Both registers have n places.
+pub record Sized {A : Type 0} (n : ℕ) (g : Generator A) : Type 0 where
+  pub lfsr : length (g .lfsr) ≡ n
+  pub nfsr : length (g .nfsr) ≡ n
+
+module _ {A : Type 0} (over : Algebra A) where
+  -- The content of each place of a register.
+  abbrev pub place : List A → ℕ → A
+  place r k = getD r k (over .zero)
+
+  unfoldable pub preoutput : Generator A → A
+  preoutput g = y over (place (g .lfsr)) (place (g .nfsr))
+
+  -- One clock: each register moves one place down and its last place takes the new bit. All is taken from the state before the clock.
+  unfoldable pub clock : Generator A → (toLfsr toNfsr : A) → Generator A
+  clock g toLfsr toNfsr = record {
+    lfsr = shift (g .lfsr) (lfsrBit over (place (g .lfsr)) toLfsr);
+    nfsr = shift (g .nfsr) (nfsrBit over (place (g .lfsr)) (place (g .nfsr)) toNfsr);
+  }
+
+  -- Plain running: nothing is added.
+  abbrev pub plain : Generator A → Generator A
+  plain g = clock g (over .zero) (over .zero)
+
+  -- The pre-output is added to both new bits.
+  abbrev pub fedBack : Generator A → Generator A
+  fedBack g = clock g (preoutput g) (preoutput g)
+
+  -- A key bit is added to the new LFSR bit only.
+  abbrev pub keyed : Generator A → A → Generator A
+  keyed g k = clock g k (over .zero)

@@ -1,0 +1,4 @@
+pub mod Algebra
+pub mod Functions
+pub mod Generator
+pub mod Published
