@@ -3,10 +3,11 @@
 use mathlib.Core.Path.{_≡_, refl, sym, ap, _∙_}
 use mathlib.Core.Bool.{Bool, true, false, cond}
 use mathlib.Core.List.{List, [], _∷_}
-use Prim.Native.Nat.{ℕ, zero, suc, _<_}
+use Prim.Native.Nat.{ℕ, zero, suc, suc-le-suc, _<_}
+use native.Mathlib.Omega.{arith}
 use native.Mathlib.Nat.{le-of-eq}
 use lib.ListN.{length}
-use Rattle.bits.specs.Strings.{_⊞_, shift, zeros}
+use Rattle.bits.specs.Strings.{_⊞_, shift}
 use Rattle.bits.proofs.Shift.{length-shift}
 use Rattle.bits.proofs.Sum.{sum-assoc, sum-zeros, length-sum}
 use Rattle.authenticator.specs.Authenticator.{Authenticator, Sized, add, move, absorb, absorbAll, registerAfter}
@@ -40,6 +41,14 @@ move-sized w a new pos sized = record { accumulator = sized .accumulator; regist
 pub absorb-sized : (w : ℕ) (a : Authenticator) (m new : Bool) → 0 < w → Sized w a → Sized w (absorb a m new)
 unfolding absorb
 absorb-sized w a m new pos sized = search (add-sized, move-sized)
+
+-- Only the stream's bits at the string's positions count.
+pub absorbAll-agrees : (a : Authenticator) (s : List Bool) (new new′ : ℕ → Bool) → ((i : ℕ) → i < length s → new i ≡ new′ i) → absorbAll a s new ≡ absorbAll a s new′
+unfolding absorbAll
+absorbAll-agrees a [] new new′ e = refl
+absorbAll-agrees a (m ∷ s) new new′ e =
+    ap (λ (b : Bool). absorbAll (absorb a m b) s (λ i. new (suc i))) (e 0 (omega arith))
+    ∙ absorbAll-agrees (absorb a m (new′ 0)) s (λ i. new (suc i)) (λ i. new′ (suc i)) (λ i h. e (suc i) (suc-le-suc h))
 
 pub closed-form : ClosedForm
 unfolding add move absorb absorbAll registerAfter registersAt

@@ -1,2 +1,3 @@
 pub mod Authenticator
 pub mod ClosedForm
+pub mod Words

@@ -1,15 +1,14 @@
 -- Flipped bits of byte strings: flips add up, join as strings join, and undo themselves.
 -- Assumes nothing.
-use mathlib.Core.Path.{_≡_, refl, sym, ap, ap₂, _∙_}
+use mathlib.Core.Path.{_≡_, sym, ap, ap₂, _∙_}
 use mathlib.Core.Bool.{Bool}
 use mathlib.Core.List.{List, _++_}
 use Prim.Native.Nat.{ℕ, _+_, _*_}
 use native.Mathlib.Nat.{le-of-eq}
-use native.Mathlib.Omega.{arith}
 use lib.ListN.{length, length-append}
 use Rattle.bits.specs.Bytes.{Bytes, bits, bytes, flip}
 use Rattle.bits.specs.Strings.{_⊞_, zeros}
-use Rattle.bits.proofs.Packing.{bits-append, length-bits, length-bytes, bytes-bits, bits-bytes, bytes-append, bytes-are-bytes}
+use Rattle.bits.proofs.Packing.{bits-append, length-bits, length-bytes, bytes-bits, bits-bytes, bytes-append}
 use Rattle.bits.proofs.Sum.{sum-assoc, sum-self, sum-zeros, sum-append, length-sum}
 
 -- There is one flip for each bit of the string.
@@ -19,10 +18,6 @@ Flips s d = length d ≡ 8 * length s
 pub length-flip : (s : List ℕ) (d : List Bool) → length (flip s d) ≡ length s
 unfolding flip
 length-flip s d = length-bytes (length s) (bits s ⊞ d)
-
-pub flip-is-bytes : (s : List ℕ) (d : List Bool) → Bytes (flip s d)
-unfolding flip
-flip-is-bytes s d = bytes-are-bytes (length s) (bits s ⊞ d)
 
 length-flipped : (s : List ℕ) (d : List Bool) → Flips s d → length (bits s ⊞ d) ≡ 8 * length s
 length-flipped s d h = length-sum (bits s) d (length-bits s ∙ sym h) ∙ length-bits s

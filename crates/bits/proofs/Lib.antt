@@ -1,5 +1,9 @@
 pub mod Shift
 pub mod Sum
+pub mod Times
 pub mod Word
+pub mod Lowest
 pub mod Packing
 pub mod Flip
+pub mod Places
+pub mod Spelling

@@ -1,10 +1,10 @@
 -- The sum of bits, and the sum of strings of bits: a commutative sum in which everything is its own inverse.
 -- Assumes nothing.
 use mathlib.Core.Path.{_≡_, refl, sym, ap, ap₂, _∙_}
-use mathlib.Core.Bool.{Bool, true, false, not, _&&_, Bool·not-not}
+use mathlib.Core.Bool.{Bool, true, false, not, Bool·not-not}
 use mathlib.Core.List.{List, [], _∷_, _++_}
 use Prim.Native.Nat.{ℕ, zero, suc, _≤_}
-use native.Mathlib.Nat.{suc-inj, le-of-suc-le-suc, not-suc-le-zero, le-refl, le-of-eq}
+use native.Mathlib.Nat.{suc-inj, le-of-suc-le-suc, not-suc-le-zero, le-of-eq}
 use lib.ListN.{length, getD}
 use Rattle.bits.specs.Bit.{_⊻_}
 use Rattle.bits.specs.Strings.{_⊞_, zeros}

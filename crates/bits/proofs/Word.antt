@@ -2,15 +2,18 @@
 -- Assumes nothing.
 use mathlib.Core.Path.{_≡_, refl, sym, ap, ap₂, _∙_}
 use mathlib.Core.Bool.{Bool, true, false}
-use mathlib.Core.List.{List, [], _∷_, _++_}
-use Prim.Native.Nat.{ℕ, zero, suc, _+_, _*_, _/_, _%_, _^_, _≤_, _<_}
-use native.Mathlib.Nat.{mod-lt, mod-one, pow-suc, mul-add-mod-self-right}
+use mathlib.Core.List.{List, [], _∷_, _++_, append-assoc}
+use Prim.Native.Nat.{ℕ, zero, suc, _+_, _-_, _*_, _/_, _%_, _^_, _<_}
+use native.Mathlib.Nat.{le-of-suc-le-suc, not-suc-le-zero, zero-add, suc-add, add-zero, add-comm, mul-div-cancel, mul-mod-left, mod-mod, div-one, mod-lt, mod-one, pow-suc, mul-add-mod-self-right}
 use native.Mathlib.Omega.{arith}
-use native.Mathlib.Numerals.{one-add}
-use lib.Pow.{pow-pos, high, field, mod-pow-add, mod-mod-pow}
-use lib.ListN.{length}
+use native.Mathlib.Numerals.{one-add, add-one}
+use lib.Arith.{mod-mul}
+use lib.Bits.{bitOr, or-shifted}
+use lib.Pow.{pow-pos, high, shr-shr, field, mod-pow-add, mod-mod-pow, pow-add}
+use lib.ListN.{length, getD, drop}
 use Rattle.bits.specs.Bit.{digit}
-use Rattle.bits.specs.Bytes.{isOne, bit, word, value}
+use Rattle.bits.specs.Bytes.{isOne, lowest, bit, word, value}
+use Rattle.bits.specs.Strings.{shift}
 
 pub length-word : (n x : ℕ) → length (word n x) ≡ n
 unfolding word
@@ -25,7 +28,7 @@ isOne-digit : (b : Bool) → isOne (digit b % 2) ≡ b
 isOne-digit true = refl
 isOne-digit false = refl
 
-digit-isOne : (d : ℕ) → d < 2 → digit (isOne d) ≡ d
+pub digit-isOne : (d : ℕ) → d < 2 → digit (isOne d) ≡ d
 digit-isOne zero h = refl
 digit-isOne (suc zero) h = refl
 digit-isOne (suc (suc d)) h = absurd (omega arith)
@@ -68,3 +71,50 @@ word-value [] = refl
 word-value (b ∷ s) =
     ap₂ _∷_ (ap (λ (d : ℕ). isOne (d % 2)) (high (digit b) (length s) (value-bound s)) ∙ isOne-digit b)
     (word-low (length s) (digit b) (value s) ∙ word-value s)
+
+-- A word of m + k bits is a word of m bits and one of k.
+pub word-append : (m k x r : ℕ) → r < 2 ^ k → word (m + k) (x * 2 ^ k + r) ≡ word m x ++ word k r
+unfolding word
+word-append zero k x r h = ap (λ (n : ℕ). word n (x * 2 ^ k + r)) (zero-add k) ∙ word-low k x r
+word-append (suc m) k x r h = ap (λ (n : ℕ). word n (x * 2 ^ k + r)) (suc-add m k) ∙ ap₂ _∷_ (ap lowest top) (word-append m k x r h)
+  where
+    top : (x * 2 ^ k + r) / 2 ^ (m + k) ≡ x / 2 ^ m
+    top = ap (λ (n : ℕ). (x * 2 ^ k + r) / 2 ^ n) (add-comm m k) ∙ sym (shr-shr (x * 2 ^ k + r) k m) ∙ ap (λ (z : ℕ). z / 2 ^ m) (high x k h)
+
+-- Bits that are moved up out of j + k bits are lost.
+pub shl-mod : (j k x : ℕ) → x * 2 ^ k % 2 ^ (j + k) ≡ x % 2 ^ j * 2 ^ k
+shl-mod j k x =
+    ap (λ (m : ℕ). x * 2 ^ k % m) (pow-add 2 j k) ∙ mod-mul (x * 2 ^ k) (pow-pos j) (pow-pos k)
+    ∙ ap₂ (λ (a b : ℕ). a % 2 ^ j * 2 ^ k + b) (mul-div-cancel x (pow-pos k)) (mul-mod-left x (2 ^ k)) ∙ add-zero (x % 2 ^ j * 2 ^ k)
+
+-- A word that moved up by one bit, with a new lowest bit.
+pub word-shift : (n x new : ℕ) → word (suc n) (bitOr (x * 2 % 2 ^ suc n) (new % 2)) ≡ shift (word (suc n) x) (lowest new)
+unfolding word
+word-shift n x new =
+    ap (word (suc n)) (ap (λ (y : ℕ). bitOr y (new % 2)) (ap (λ (k : ℕ). x * 2 % 2 ^ k) (sym (add-one n)) ∙ shl-mod n 1 x) ∙ or-shifted (x % 2 ^ n) 1 (new % 2) small)
+    ∙ ap (λ (k : ℕ). word k (x % 2 ^ n * 2 + new % 2)) (sym (add-one n))
+    ∙ word-append n 1 (x % 2 ^ n) (new % 2) small
+    ∙ ap₂ (λ (s : List Bool) (d : ℕ). s ++ (isOne d ∷ [])) (word-agrees n (x % 2 ^ n) x (mod-mod x (2 ^ n))) (ap (λ (d : ℕ). d % 2) (div-one (new % 2)) ∙ mod-mod new 2)
+  where
+    small : new % 2 < 2
+    small = mod-lt new (pow-pos 1)
+
+-- A register of two words moves as one.
+pub shift-words : (n w0 w1 : ℕ) (new : Bool) → shift (word (suc n) w0) (lowest (w1 / 2 ^ n)) ++ shift (word (suc n) w1) new ≡ shift (word (suc n) w0 ++ word (suc n) w1) new
+unfolding word
+shift-words n w0 w1 new =
+    append-assoc (word n w0) (bit n w1 ∷ []) (word n w1 ++ (new ∷ []))
+    ∙ sym (append-assoc (word n w0) (bit n w1 ∷ word n w1) (new ∷ []))
+
+-- Place k of a word.
+pub getD-word : (n x k : ℕ) → k < n → getD (word n x) k false ≡ bit (n - suc k) x
+unfolding word
+getD-word zero x k h = absurd (not-suc-le-zero h)
+getD-word (suc n) x zero h = ap (λ (m : ℕ). bit m x) (omega arith)
+getD-word (suc n) x (suc k) h = getD-word n x k (le-of-suc-le-suc h) ∙ ap (λ (m : ℕ). bit m x) (omega arith)
+
+-- The last places of a word are a shorter word.
+pub word-drop : (m n x : ℕ) → drop m (word (m + n) x) ≡ word n x
+unfolding word
+word-drop zero n x = ap (λ (k : ℕ). word k x) (zero-add n)
+word-drop (suc m) n x = ap (λ (k : ℕ). drop (suc m) (word k x)) (suc-add m n) ∙ word-drop m n x

@@ -11,9 +11,13 @@ abbrev pub isOne : ℕ → Bool
 isOne zero = false
 isOne (suc n) = true
 
+-- The lowest bit of a number.
+abbrev pub lowest : ℕ → Bool
+lowest x = isOne (x % 2)
+
 -- The bit of x whose weight is 2 ^ k.
 abbrev pub bit : ℕ → ℕ → Bool
-bit k x = isOne (x / 2 ^ k % 2)
+bit k x = lowest (x / 2 ^ k)
 
 -- The n lowest bits of x, the highest of them first.
 unfoldable pub word : ℕ → ℕ → List Bool

@@ -1,3 +1,4 @@
 pub mod Bit
 pub mod Bytes
 pub mod Strings
+pub mod Times

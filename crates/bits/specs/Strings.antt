@@ -2,7 +2,7 @@
 use mathlib.Core.Bool.{Bool, false}
 use mathlib.Core.List.{List, [], _∷_, _++_}
 use Prim.Native.Nat.{ℕ}
-use lib.ListN.{drop, replicate}
+use lib.ListN.{getD, drop, replicate}
 use Rattle.bits.specs.Bit.{_⊻_}
 
 infixl 60 _⊞_
@@ -19,3 +19,7 @@ zeros n = replicate n false
 -- A register moves one place down, and its last place takes the new bit.
 abbrev pub shift {ℓ} : {A : Type ℓ} → List A → A → List A
 shift r new = drop 1 r ++ (new ∷ [])
+
+-- The bits of a string by their places; past its end, zeros.
+abbrev pub places : List Bool → ℕ → Bool
+places s i = getD s i false

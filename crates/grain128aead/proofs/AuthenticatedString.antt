@@ -1,7 +1,7 @@
 -- The authenticated string: its length, and that it tells the AD and the message apart.
 -- Assumes nothing.
-use mathlib.Core.Path.{_≡_, refl, sym, ap, ap₂, _∙_}
-use mathlib.Core.Bool.{Bool, true, cond}
+use mathlib.Core.Path.{_≡_, refl, sym, ap, _∙_}
+use mathlib.Core.Bool.{true, cond}
 use mathlib.Core.List.{List, [], _∷_, _++_, append-assoc, append-cancel-left, append-cancel-right}
 use Prim.Native.Nat.{ℕ, zero, suc, _+_, _*_, _/_, _%_, _≤_, _<_}
 use native.Mathlib.Nat.{lt-of-not-le, div-add-mod'}
@@ -18,15 +18,15 @@ use Rattle.grain128aead.specs.AuthenticatedString.{codedLength, header, 
 use Rattle.grain128aead.specs.Demand3.{Distinct}
 
 -- A legal AD length has two bytes.
-adLimit-coded : adLimit < 65536
+pub adLimit-coded : adLimit < 65536
 unfolding adLimit
 adLimit-coded = lit< tt
 
-coded-short : (n : ℕ) → n ≤ 127 → codedLength n ≡ n ∷ []
+pub coded-short : (n : ℕ) → n ≤ 127 → codedLength n ≡ n ∷ []
 unfolding codedLength
 coded-short n h = simp (le-leb n 127 h)
 
-coded-long : (n : ℕ) → 127 < n → codedLength n ≡ 0x82 ∷ n / 256 ∷ n % 256 ∷ []
+pub coded-long : (n : ℕ) → 127 < n → codedLength n ≡ 0x82 ∷ n / 256 ∷ n % 256 ∷ []
 unfolding codedLength
 coded-long n h = simp (lt-leb n 127 h)
 

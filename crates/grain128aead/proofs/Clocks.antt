@@ -1,40 +1,41 @@
 -- The machine's keystream and register bits by their clock numbers.
 -- Assumes nothing.
-use mathlib.Core.Path.{_≡_, refl, sym, ap, ap₂, _∙_}
+use mathlib.Core.Path.{_≡_, refl, sym, ap, _∙_}
 use mathlib.Core.Bool.{Bool, false}
-use mathlib.Core.List.{List, [], _∷_, _++_}
+use mathlib.Core.List.{List, [], _∷_}
 use Prim.Native.Nat.{ℕ, zero, suc, _+_, _-_, _*_, _<_}
 use native.Mathlib.Omega.{arith}
-use native.Mathlib.Nat.{zero-add, suc-add, le-of-suc-le-suc, not-suc-le-zero}
+use native.Mathlib.Nat.{le-of-suc-le-suc, not-suc-le-zero}
 use lib.ListN.{length, getD}
 use Rattle.bits.specs.Bit.{_⊻_}
 use Rattle.bits.specs.Bytes.{bits}
 use Rattle.bits.specs.Strings.{shift}
+use Rattle.bits.specs.Times.{times}
 use Rattle.bits.proofs.Sum.{getD-sum}
+use Rattle.bits.proofs.Times.{times-last, times-add}
 use Rattle.bits.proofs.Flip.{bits-flip}
 use Rattle.preoutput.specs.Algebra.{single}
-use Rattle.preoutput.specs.Generator.{Generator, preoutput, plain}
+use Rattle.preoutput.specs.Generator.{Generator, preoutput, plain, everySecond}
 use Rattle.authenticator.specs.Authenticator.{absorb, add, move}
 use Rattle.grain128aead.specs.StartUp.{initialised}
 use Rattle.grain128aead.specs.Machine.{State, keystreamBit, step, run}
 use Rattle.grain128aead.specs.AuthenticatedString.{header}
-use Rattle.grain128aead.specs.Payload.{begun, ciphertext}
-use Rattle.grain128aead.specs.Laws.{clocked, preoutputAt, Clocks, Enciphered}
-use Rattle.grain128aead.proofs.Machine.{run-append, keystream}
+use Rattle.grain128aead.specs.Payload.{begun}
+use Rattle.grain128aead.specs.Laws.{preoutputAt, Clocks, Enciphered}
+use Rattle.grain128aead.proofs.Machine.{run-append}
 use Rattle.grain128aead.proofs.Payload.{under, length-under, ciphertext-flip}
+
+-- k plain clocks.
+abbrev clocked : ℕ → Generator Bool → Generator Bool
+clocked k g = times k (plain single) g
 
 two-more : (n : ℕ) → 2 * suc n ≡ suc (suc (2 * n))
 two-more n = omega arith
 
 pub run-clocked : (st : State) (s : List Bool) → run st s .generator ≡ clocked (2 * length s) (st .generator)
-unfolding run step clocked
+unfolding run step times
 run-clocked st [] = refl
 run-clocked st (m ∷ s) = run-clocked (step st m) s ∙ ap (λ (k : ℕ). clocked k (st .generator)) (sym (two-more (length s)))
-
-clocked-last : (k : ℕ) (g : Generator Bool) → plain single (clocked k g) ≡ clocked (suc k) g
-unfolding clocked
-clocked-last zero g = refl
-clocked-last (suc k) g = clocked-last k (plain single g)
 
 -- Clock 384 + k of the machine.
 at-clock : (key nonce : List ℕ) (t k : ℕ) → t ≡ 384 + k → preoutput single (clocked k (initialised key nonce .generator)) ≡ preoutputAt key nonce t
@@ -49,17 +50,12 @@ clocks key nonce s m = record {
       ap (λ (st : State). st .authenticator .register) (run-append (initialised key nonce) s (m ∷ []))
       ∙ ap (shift (run (initialised key nonce) s .authenticator .register))
       (ap (λ (g : Generator Bool). preoutput single (plain single g)) (run-clocked (initialised key nonce) s)
-      ∙ ap (preoutput single) (clocked-last (2 * length s) (initialised key nonce .generator))
+      ∙ ap (preoutput single) (times-last (plain single) (2 * length s) (initialised key nonce .generator))
       ∙ at-clock key nonce (384 + 2 * length s + 1) (suc (2 * length s)) (omega arith));
 }
 
-clocked-add : (k j : ℕ) (g : Generator Bool) → clocked j (clocked k g) ≡ clocked (k + j) g
-unfolding clocked
-clocked-add zero j g = ap (λ (n : ℕ). clocked n g) (sym (zero-add j))
-clocked-add (suc k) j g = clocked-add k j (plain single g) ∙ ap (λ (n : ℕ). clocked n g) (sym (suc-add k j))
-
-keystream-at : (n j : ℕ) (g : Generator Bool) → j < n → getD (keystream g n) j false ≡ preoutput single (clocked (2 * j) g)
-unfolding keystream clocked
+keystream-at : (n j : ℕ) (g : Generator Bool) → j < n → getD (everySecond single n g) j false ≡ preoutput single (clocked (2 * j) g)
+unfolding everySecond times
 keystream-at zero j g h = absurd (not-suc-le-zero h)
 keystream-at (suc n) zero g h = refl
 keystream-at (suc n) (suc j) g h =
@@ -74,5 +70,5 @@ enciphered key nonce ad message j h =
     ∙ ap (λ (b : Bool). getD (bits message) j false ⊻ b)
     (keystream-at (8 * length message) j (begun key nonce ad .generator) h
     ∙ ap (λ (g : Generator Bool). preoutput single (clocked (2 * j) g)) (run-clocked (initialised key nonce) (header ad))
-    ∙ ap (preoutput single) (clocked-add (2 * length (header ad)) (2 * j) (initialised key nonce .generator))
+    ∙ ap (preoutput single) (times-add (plain single) (2 * length (header ad)) (2 * j) (initialised key nonce .generator))
     ∙ at-clock key nonce (384 + 2 * (length (header ad) + j)) (2 * length (header ad) + 2 * j) (omega arith))

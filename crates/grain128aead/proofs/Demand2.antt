@@ -1,25 +1,27 @@
 -- Demands 1 and 2: the rows decide, and opening accepts exactly what some message makes.
 -- Assumes nothing.
-use mathlib.Core.Path.{_≡_, refl, sym, ap, ap₂, _∙_, subst}
+use mathlib.Core.Path.{_≡_, refl, sym, ap, ap₂, _∙_}
 use mathlib.Core.Bool.{Bool, cond}
-use mathlib.Core.List.{List, [], _∷_, _++_}
+use mathlib.Core.List.{List, [], _++_}
 use Prim.Native.Nat.{ℕ, _+_, _-_, _≤_}
 use native.Mathlib.Omega.{arith}
 use borrow.Author.Tests.{ltb-false, le-ltb, eq-eqb}
-use lib.ListN.{length, length-append, length-take}
-use Rattle.bits.specs.Bytes.{Bytes, bits}
-use Rattle.bits.proofs.Packing.{bytes-are-bytes}
+use lib.Dec.{ltb}
+use lib.ListN.{length}
+use Rattle.bits.specs.Bytes.{Bytes}
 use Rattle.grain128aead.specs.declared.Refusal.the-variants.{TagDiffers}
+use Rattle.grain128aead.specs.declared.Check.{Check}
+use Rattle.grain128aead.specs.declared.Check.the-variants.{Passed}
 use Rattle.grain128aead.specs.Sizes.{keySize, nonceSize, tagSize, adLimit, messageLimit}
-use Rattle.grain128aead.specs.Machine.{decipher}
-use Rattle.grain128aead.specs.Payload.{begun, ciphertext, deciphered, tag, payload, ciphertextPart, tagPart}
-use Rattle.grain128aead.specs.Refusals.{Outcome, order, judged, refused, success}
+use Rattle.grain128aead.specs.Payload.{ciphertext, deciphered, tag, payload, ciphertextPart, tagPart}
+use Rattle.grain128aead.specs.Refusals.{Outcome, sizeRefusals, check, settled, refused, success}
 use Rattle.grain128aead.specs.Calls.{rows, sealingRow, sealed, recovered, openingRow, opened, tagDiffers}
 use Rattle.grain128aead.specs.Demand1.{Demand1, Accepts}
 use Rattle.grain128aead.specs.Demand2.{Legal, Makes, Sealing, Demand2}
-use Rattle.grain128aead.proofs.Payload.{ciphertextPart-joined, tagPart-joined, parts-join, ciphertextPart-bytes, lengths, length-ciphertext, length-deciphered, deciphered-bytes, length-tag, length-payload, deciphered-ciphertext, ciphertext-deciphered}
-use Rattle.grain128aead.proofs.Refusals.{demand1}
-use Rattle.grain128aead.proofs.Rows.{Clear, rows-clear, clear-rows, Authentic, tag-authentic, authentic-tag}
+use Rattle.grain128aead.proofs.Payload.{ciphertextPart-joined, tagPart-joined, parts-join, ciphertextPart-bytes, lengths, length-deciphered, deciphered-bytes, length-tag, length-payload, deciphered-ciphertext, ciphertext-deciphered}
+use Rattle.grain128aead.proofs.Demand1.{demand1}
+use Rattle.grain128aead.proofs.Settled.{after, sizesOf, opened-settled, settled-tag}
+use Rattle.grain128aead.proofs.Rows.{rows-clear, clear-rows, Authentic, tag-authentic, authentic-tag}
 
 module _ (key nonce ad message out : List ℕ) where
   pub demand1-sealing : Demand1 (sealingRow key nonce ad message out) (payload key nonce ad message) out (sealed key nonce ad message out)
@@ -71,10 +73,9 @@ module _ (key nonce ad input out : List ℕ) where
     room = omega arith;
   }
 
-  -- With the sizes in order only row 7 is left.
-  pub opening-tag : InOrder → opened key nonce ad input out ≡ cond (tagDiffers key nonce ad input) (refused TagDiffers out) (success (recovered key nonce ad input) out)
-  unfolding opened judged order rows
-  opening-tag o =
+  passed : InOrder → sizesOf key nonce ad (ltb (messageLimit + tagSize) (length input)) (ltb (length input) tagSize) (ltb (length out) (length input - tagSize)) ≡ Passed
+  unfolding check sizeRefusals rows
+  passed o =
       simp (
         eq-eqb (length key) keySize (o .keySized),
         eq-eqb (length nonce) nonceSize (o .nonceSized),
@@ -83,6 +84,13 @@ module _ (key nonce ad input out : List ℕ) where
         le-ltb (length input) tagSize (o .reaches),
         le-ltb (length out) (length input - tagSize) (o .room),
       )
+
+  -- With the sizes in order only row 7 is left.
+  pub opening-tag : InOrder → opened key nonce ad input out ≡ cond (tagDiffers key nonce ad input) (refused TagDiffers out) (success (recovered key nonce ad input) out)
+  opening-tag o =
+      opened-settled key nonce ad input out
+      ∙ ap (λ (c : Check). settled (after c (tagDiffers key nonce ad input)) (recovered key nonce ad input) out) (passed o)
+      ∙ settled-tag (tagDiffers key nonce ad input) (recovered key nonce ad input) out
 
   pub opening-in-order : Accepts (opened key nonce ad input out) → InOrder × Authentic key nonce ad input
   opening-in-order a =

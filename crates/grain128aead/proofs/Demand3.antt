@@ -1,33 +1,30 @@
 -- Demand 3: which flips opening accepts.
 -- Assumes nothing.
 use mathlib.Core.Path.{_≡_, refl, sym, ap, ap₂, _∙_, subst}
-use mathlib.Core.Bool.{Bool, true, false, cond, not}
-use mathlib.Core.List.{List, [], _∷_, _++_}
+use mathlib.Core.Bool.{Bool, true, false, cond}
+use mathlib.Core.List.{List, _++_}
 use Prim.Native.Nat.{ℕ, _+_, _*_, _≤_}
 use native.Mathlib.Nat.{le-of-eq}
-use native.Mathlib.Omega.{arith}
 use lib.ListN.{length, length-append}
-use Rattle.bits.specs.Bytes.{Bytes, bits, bytes, flip}
+use Rattle.bits.specs.Bytes.{bits, bytes, flip}
 use Rattle.bits.specs.Strings.{_⊞_}
 use Rattle.bits.proofs.Flip.{Flips, length-flip, flip-flip, flip-append}
-use Rattle.bits.proofs.Packing.{length-bits, length-bytes, bits-bytes, bytes-injective}
+use Rattle.bits.proofs.Packing.{length-bytes, bits-bytes, bytes-injective}
 use Rattle.bits.proofs.Sum.{sum-comm, sum-twice, sum-cancel, length-sum}
-use Rattle.preoutput.specs.Generator.{Generator}
 use Rattle.grain128aead.specs.declared.Refusal.the-variants.{TagDiffers}
-use Rattle.grain128aead.specs.Sizes.{keySize, nonceSize, tagSize, adLimit}
+use Rattle.grain128aead.specs.Sizes.{tagSize, adLimit}
 use Rattle.grain128aead.specs.StartUp.{initialised}
 use Rattle.grain128aead.specs.Machine.{run}
-use Rattle.grain128aead.specs.AuthenticatedString.{codedLength, header, authenticated}
-use Rattle.grain128aead.specs.Payload.{begun, ciphertext, deciphered, tag, payload, ciphertextPart, tagPart}
+use Rattle.grain128aead.specs.AuthenticatedString.{authenticated}
+use Rattle.grain128aead.specs.Payload.{ciphertext, deciphered, tag, payload, ciphertextPart, tagPart}
 use Rattle.grain128aead.specs.Refusals.{Outcome, refused, success}
 use Rattle.grain128aead.specs.Calls.{recovered, tagDiffers, opened}
-use Rattle.grain128aead.specs.Demand1.{Accepts}
-use Rattle.grain128aead.specs.Demand2.{Legal, Makes}
-use Rattle.grain128aead.specs.Demand3.{flippedRegisters, Flipped, Agrees, Verdict, Demand3}
+use Rattle.grain128aead.specs.Demand2.{Legal}
+use Rattle.grain128aead.specs.Demand3.{flippedRegisters, Flipped, Agrees, Demand3}
 use Rattle.grain128aead.proofs.Payload.{ciphertextPart-joined, tagPart-joined, length-ciphertext, length-tag, under, length-under, ciphertext-flip, deciphered-flip, under-same}
 use Rattle.grain128aead.proofs.Rows.{Authentic, tag-authentic, authentic-tag}
 use Rattle.grain128aead.proofs.Demand2.{InOrder, legal-in-order, opening-tag, opening-in-order}
-use Rattle.grain128aead.proofs.Tag.{states, length-flippedRegisters, accumulator-flip}
+use Rattle.grain128aead.proofs.Accumulated.{states, length-flippedRegisters, accumulator-flip}
 
 -- Three flips of which the first and the last are the same are the one in the middle.
 flip-between : (s : List ℕ) (k d : List Bool) → Flips s k → Flips s d → flip (flip (flip s k) d) k ≡ flip s d

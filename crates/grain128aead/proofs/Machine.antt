@@ -1,21 +1,20 @@
 -- Laws of the running machine: what it does to a string, as the string's bits, the keystream and the authenticator's own law.
 -- Assumes nothing.
-use mathlib.Core.Path.{_≡_, refl, sym, ap, ap₂, _∙_}
-use mathlib.Core.Bool.{Bool}
+use mathlib.Core.Path.{_≡_, refl, sym, ap, _∙_}
+use mathlib.Core.Bool.{Bool, cond}
 use mathlib.Core.List.{List, [], _∷_, _++_, foldl-append}
-use Prim.Native.Nat.{ℕ, zero, suc}
-use native.Mathlib.Nat.{suc-inj, le-of-eq}
+use Prim.Native.Nat.{ℕ, zero, suc, _<_}
+use native.Mathlib.Nat.{suc-inj, le-of-suc-le-suc, not-suc-le-zero}
 use native.Mathlib.Omega.{arith}
 use lib.ListN.{length}
 use Rattle.bits.specs.Bit.{_⊻_}
-use Rattle.bits.specs.Strings.{_⊞_, zeros}
-use Rattle.bits.proofs.Sum.{sum-assoc, sum-self, sum-zeros, length-sum}
+use Rattle.bits.specs.Strings.{_⊞_, places}
 use Rattle.preoutput.specs.Algebra.{single}
-use Rattle.preoutput.specs.Generator.{Generator, preoutput, plain}
+use Rattle.preoutput.specs.Generator.{Generator, preoutput, plain, everySecond}
 use Rattle.preoutput.proofs.Sizes.{clock-sized}
 use Rattle.authenticator.specs.Authenticator.{Authenticator, absorbAll, registerAfter}
 use Rattle.authenticator.proofs.ClosedForm.{independent, absorb-sized}
-use Rattle.grain128aead.specs.Machine.{State, keystreamBit, step, run, encipher, decipher}
+use Rattle.grain128aead.specs.Machine.{State, keystreamBit, step, run, crypt}
 use Rattle.grain128aead.specs.Laws.{Independent, Sized}
 
 pub run-append : (st : State) (s t : List Bool) → run st (s ++ t) ≡ run (run st s) t
@@ -59,23 +58,14 @@ run-sized st (m ∷ s) sized = run-sized (step st m) s record {
   authenticator = absorb-sized 64 (st .authenticator) m _ (omega arith) (sized .authenticator);
 }
 
--- The keystream bits of the next n string bits.
-unfoldable pub keystream : Generator Bool → ℕ → List Bool
-keystream g zero = []
-keystream g (suc n) = preoutput single g ∷ keystream (plain single (plain single g)) n
-
-pub length-keystream : (g : Generator Bool) (n : ℕ) → length (keystream g n) ≡ n
-unfolding keystream
-length-keystream g zero = refl
-length-keystream g (suc n) = ap suc (length-keystream (plain single (plain single g)) n)
+pub registerBits-places : (n i : ℕ) (g : Generator Bool) → i < n → registerBits g i ≡ places (everySecond single n (plain single g)) i
+unfolding registerBits everySecond
+registerBits-places zero i g h = absurd (not-suc-le-zero h)
+registerBits-places (suc n) zero g h = refl
+registerBits-places (suc n) (suc i) g h = registerBits-places n i (plain single (plain single g)) (le-of-suc-le-suc h)
 
 -- To encipher and to decipher are both to add the keystream.
-pub encipher-sum : (st : State) (s : List Bool) → encipher st s ≡ s ⊞ keystream (st .generator) (length s)
-unfolding encipher keystreamBit step keystream _⊞_
-encipher-sum st [] = refl
-encipher-sum st (m ∷ s) = ap (λ (r : List Bool). (m ⊻ preoutput single (st .generator)) ∷ r) (encipher-sum (step st m) s)
-
-pub decipher-sum : (st : State) (s : List Bool) → decipher st s ≡ s ⊞ keystream (st .generator) (length s)
-unfolding decipher keystreamBit step keystream _⊞_
-decipher-sum st [] = refl
-decipher-sum st (c ∷ s) = ap (λ (r : List Bool). (c ⊻ preoutput single (st .generator)) ∷ r) (decipher-sum (step st (c ⊻ preoutput single (st .generator))) s)
+pub crypt-sum : (sealing : Bool) (st : State) (s : List Bool) → crypt sealing st s ≡ s ⊞ everySecond single (length s) (st .generator)
+unfolding crypt keystreamBit step everySecond _⊞_
+crypt-sum sealing st [] = refl
+crypt-sum sealing st (x ∷ s) = ap (λ (r : List Bool). (x ⊻ preoutput single (st .generator)) ∷ r) (crypt-sum sealing (step st (cond sealing x (x ⊻ preoutput single (st .generator)))) s)

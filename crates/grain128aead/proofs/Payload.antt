@@ -1,26 +1,27 @@
 -- Payloads: the lengths of their pieces, the two parts of a sealed input, and the ciphertext as the message flipped by the keystream.
 -- Assumes nothing.
 use mathlib.Core.Path.{_≡_, refl, sym, ap, ap₂, _∙_}
-use mathlib.Core.Bool.{Bool, cond}
-use mathlib.Core.List.{List, [], _∷_, _++_}
+use mathlib.Core.Bool.{Bool, true, false}
+use mathlib.Core.List.{List, [], _++_}
 use Prim.Native.Nat.{ℕ, _+_, _-_, _*_, _≤_, _<_}
-use native.Mathlib.Nat.{add-sub-cancel, le-add-left}
 use native.Mathlib.Omega.{arith}
-use borrow.Author.Tests.{le-ltb}
+use borrow.Author.Tests.{lt-ltb, le-ltb}
 use lib.ListN.{length, take, drop, length-append, take-append-drop, length-take, length-drop}
 use lib.Seq.{take-at, drop-at}
 use Rattle.bits.specs.Bytes.{Bytes, bits, bytes, flip}
 use Rattle.bits.specs.Strings.{_⊞_}
 use Rattle.bits.proofs.Packing.{length-bits, length-bytes, bytes-are-bytes, Bytes-take}
 use Rattle.bits.proofs.Flip.{length-flip, flip-twice}
-use Rattle.preoutput.specs.Generator.{Generator}
+use Rattle.preoutput.specs.Algebra.{single}
+use Rattle.preoutput.specs.Generator.{Generator, everySecond}
+use Rattle.preoutput.proofs.Streams.{length-everySecond}
 use Rattle.grain128aead.specs.Sizes.{tagSize}
 use Rattle.grain128aead.specs.StartUp.{initialised}
 use Rattle.grain128aead.specs.Machine.{encipher, decipher}
 use Rattle.grain128aead.specs.AuthenticatedString.{codedLength, header}
 use Rattle.grain128aead.specs.Payload.{begun, ciphertext, deciphered, tag, payload, ciphertextPart, tagPart}
 use Rattle.grain128aead.specs.Laws.{Lengths}
-use Rattle.grain128aead.proofs.Machine.{run-generator, keystream, length-keystream, encipher-sum, decipher-sum}
+use Rattle.grain128aead.proofs.Machine.{run-generator, crypt-sum}
 use Rattle.grain128aead.proofs.AuthenticatedString.{length-authenticated}
 
 -- ---- the two parts of a sealed input
@@ -32,6 +33,14 @@ ciphertextPart-is input h = simp (le-ltb (length input) tagSize h)
 pub tagPart-is : (input : List ℕ) → tagSize ≤ length input → tagPart input ≡ drop (length input - tagSize) input
 unfolding tagPart
 tagPart-is input h = simp (le-ltb (length input) tagSize h)
+
+pub ciphertextPart-short : (input : List ℕ) → length input < tagSize → ciphertextPart input ≡ []
+unfolding ciphertextPart
+ciphertextPart-short input h = simp (lt-ltb (length input) tagSize h)
+
+pub tagPart-short : (input : List ℕ) → length input < tagSize → tagPart input ≡ []
+unfolding tagPart
+tagPart-short input h = simp (lt-ltb (length input) tagSize h)
 
 pub parts-join : (input : List ℕ) → tagSize ≤ length input → ciphertextPart input ++ tagPart input ≡ input
 parts-join input h = ap₂ _++_ (ciphertextPart-is input h) (tagPart-is input h) ∙ take-append-drop (length input - tagSize) input
@@ -86,19 +95,19 @@ module _ (key nonce ad : List ℕ) where
 
   -- The keystream bits under n message bytes.
   unfoldable pub under : ℕ → List Bool
-  under n = keystream (begun key nonce ad .generator) (8 * n)
+  under n = everySecond single (8 * n) (begun key nonce ad .generator)
 
   pub length-under : (n : ℕ) → length (under n) ≡ 8 * n
   unfolding under
-  length-under n = length-keystream (begun key nonce ad .generator) (8 * n)
+  length-under n = length-everySecond (begun key nonce ad .generator) (8 * n)
 
   pub ciphertext-flip : (message : List ℕ) → ciphertext key nonce ad message ≡ flip message (under (length message))
   unfolding ciphertext flip under
-  ciphertext-flip message = ap (bytes (length message)) (encipher-sum (begun key nonce ad) (bits message) ∙ ap (λ (n : ℕ). bits message ⊞ keystream (begun key nonce ad .generator) n) (length-bits message))
+  ciphertext-flip message = ap (bytes (length message)) (crypt-sum true (begun key nonce ad) (bits message) ∙ ap (λ (n : ℕ). bits message ⊞ everySecond single n (begun key nonce ad .generator)) (length-bits message))
 
   pub deciphered-flip : (c : List ℕ) → deciphered key nonce ad c ≡ flip c (under (length c))
   unfolding deciphered flip under
-  deciphered-flip c = ap (bytes (length c)) (decipher-sum (begun key nonce ad) (bits c) ∙ ap (λ (n : ℕ). bits c ⊞ keystream (begun key nonce ad .generator) n) (length-bits c))
+  deciphered-flip c = ap (bytes (length c)) (crypt-sum false (begun key nonce ad) (bits c) ∙ ap (λ (n : ℕ). bits c ⊞ everySecond single n (begun key nonce ad .generator)) (length-bits c))
 
   flip-under-twice : (s : List ℕ) → Bytes s → flip (flip s (under (length s))) (under (length (flip s (under (length s))))) ≡ s
   flip-under-twice s h = ap (λ (n : ℕ). flip (flip s (under (length s))) (under n)) (length-flip s (under (length s))) ∙ flip-twice s (under (length s)) h (length-under (length s))
@@ -117,6 +126,6 @@ length-header ad = omega (arith, length-append (bits (codedLength (length ad))) 
 pub under-same : (key nonce ad ad′ : List ℕ) (n : ℕ) → length ad ≡ length ad′ → under key nonce ad n ≡ under key nonce ad′ n
 unfolding under begun
 under-same key nonce ad ad′ n e =
-    ap (λ (g : Generator Bool). keystream g (8 * n))
+    ap (λ (g : Generator Bool). everySecond single (8 * n) g)
     (run-generator (initialised key nonce) (initialised key nonce) (header ad) (header ad′) refl
     (length-header ad ∙ ap (λ (k : ℕ). 8 * (length (codedLength k) + k)) e ∙ sym (length-header ad′)))

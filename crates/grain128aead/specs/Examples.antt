@@ -7,7 +7,7 @@ use lib.ListN.{getD, set, replicate}
 use Rattle.bits.specs.Bit.{digit}
 use Rattle.bits.specs.Strings.{zeros}
 use Rattle.preoutput.specs.Algebra.{single}
-use Rattle.preoutput.specs.Generator.{Generator, preoutput, fedBack}
+use Rattle.preoutput.specs.Generator.{preoutput, fedBack}
 use Rattle.authenticator.specs.Authenticator.{absorb}
 use Rattle.grain128aead.specs.StartUp.{loaded}
 use Rattle.grain128aead.specs.AuthenticatedString.{codedLength, authenticated}

@@ -2,13 +2,14 @@
 use mathlib.Core.Path.{_≡_}
 use mathlib.Core.Bool.{Bool, true, false}
 use mathlib.Core.List.{List, [], _∷_, _++_}
-use Prim.Native.Nat.{ℕ, zero, suc, _+_, _-_, _*_, _≤_, _<_}
+use Prim.Native.Nat.{ℕ, _+_, _-_, _*_, _≤_, _<_}
 use lib.ListN.{length, getD}
 use Rattle.bits.specs.Bytes.{bits}
 use Rattle.bits.specs.Bit.{_⊻_}
 use Rattle.bits.specs.Strings.{_⊞_, zeros, shift}
+use Rattle.bits.specs.Times.{times}
 use Rattle.preoutput.specs.Algebra.{single}
-use Rattle.preoutput.specs.Generator.{Generator, preoutput, plain}
+use Rattle.preoutput.specs.Generator.{preoutput, plain}
 use Rattle.preoutput.specs.Generator as generator
 use Rattle.authenticator.specs.Authenticator as authenticator
 use Rattle.authenticator.specs.ClosedForm.{registersAt}
@@ -47,14 +48,9 @@ pub record Independent (st : State) (s t : List Bool) : Type 0 where
   pub register : run st s .authenticator .register ≡ run st t .authenticator .register
   pub keystream : keystreamBit (run st s) ≡ keystreamBit (run st t)
 
--- k plain clocks.
-unfoldable pub clocked : (k : ℕ) → Generator Bool → Generator Bool
-clocked zero g = g
-clocked (suc k) g = clocked k (plain single g)
-
 -- The pre-output of clock t, from clock 384 on.
 unfoldable pub preoutputAt : (key nonce : List ℕ) → (t : ℕ) → Bool
-preoutputAt key nonce t = preoutput single (clocked (t - 384) (initialised key nonce .generator))
+preoutputAt key nonce t = preoutput single (times (t - 384) (plain single) (initialised key nonce .generator))
 
 -- With i bits of the string behind it, the machine gives the pre-output of clock 384 + 2i as the keystream bit, and at the next bit its
 -- register takes that of clock 384 + 2i + 1.

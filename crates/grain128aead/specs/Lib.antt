@@ -1,6 +1,8 @@
 pub mod Sizes
 pub mod StartUp
 pub mod Machine
+pub mod Engine
+pub mod Filling
 pub mod AuthenticatedString
 pub mod Payload
 pub mod Refusals

@@ -1,6 +1,6 @@
 -- The machine: the pre-output generator and the authenticator, run over a string of bits (source document 000, section 2.3; document
 -- 01, "Running and the tag").
-use mathlib.Core.Bool.{Bool}
+use mathlib.Core.Bool.{Bool, true, false, cond}
 use mathlib.Core.List.{List, [], _∷_, foldl}
 use Rattle.bits.specs.Bit.{_⊻_}
 use Rattle.preoutput.specs.Algebra.{single}
@@ -27,12 +27,14 @@ step st m = record {
 unfoldable pub run : State → List Bool → State
 run = foldl step
 
--- Message bits are enciphered by adding their keystream bits.
-unfoldable pub encipher : State → List Bool → List Bool
-encipher st [] = []
-encipher st (m ∷ s) = (m ⊻ keystreamBit st) ∷ encipher (step st m) s
+-- Bits with their keystream bits added: a message's when sealing, a ciphertext's when opening. The machine takes the message's bits,
+-- which are those given when sealing and those that come out when opening.
+unfoldable pub crypt : (sealing : Bool) → State → List Bool → List Bool
+crypt sealing st [] = []
+crypt sealing st (x ∷ s) = (x ⊻ keystreamBit st) ∷ crypt sealing (step st (cond sealing x (x ⊻ keystreamBit st))) s
 
--- Ciphertext bits are deciphered by adding the same keystream bits; the machine takes the message bits.
-unfoldable pub decipher : State → List Bool → List Bool
-decipher st [] = []
-decipher st (c ∷ s) = (c ⊻ keystreamBit st) ∷ decipher (step st (c ⊻ keystreamBit st)) s
+abbrev pub encipher : State → (message : List Bool) → List Bool
+encipher = crypt true
+
+abbrev pub decipher : State → (ciphertext : List Bool) → List Bool
+decipher = crypt false

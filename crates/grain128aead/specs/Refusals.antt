@@ -5,6 +5,8 @@ use Prim.Native.Nat.{ℕ}
 use lib.ListN.{length, drop}
 use Rattle.grain128aead.specs.declared.Refusal.{Refusal}
 use Rattle.grain128aead.specs.declared.Refusal.the-variants.{KeySize, NonceSize, AdTooLong, MessageTooLong, SealedTooShort, OutputTooShort, TagDiffers}
+use Rattle.grain128aead.specs.declared.Check.{Check}
+use Rattle.grain128aead.specs.declared.Check.the-variants.{Passed, Failed}
 use Rattle.grain128aead.specs.declared.Answer.{Answer}
 use Rattle.grain128aead.specs.declared.Answer.the-variants.{Count, Refused}
 
@@ -17,24 +19,40 @@ number SealedTooShort = 5
 number OutputTooShort = 6
 number TagDiffers = 7
 
--- The order in which the rows are tried.
+-- The rows that sizes decide, in the order in which they are tried.
+unfoldable pub sizeRefusals : List Refusal
+sizeRefusals = KeySize ∷ NonceSize ∷ AdTooLong ∷ MessageTooLong ∷ SealedTooShort ∷ OutputTooShort ∷ []
+
+-- The order of all rows: the tag comes last.
 unfoldable pub order : List Refusal
-order = KeySize ∷ NonceSize ∷ AdTooLong ∷ MessageTooLong ∷ SealedTooShort ∷ OutputTooShort ∷ TagDiffers ∷ []
+order = sizeRefusals ++ (TagDiffers ∷ [])
+
+-- The first row of a list that applies.
+unfoldable pub check : List Refusal → (applies : Refusal → Bool) → Check
+check [] applies = Passed
+check (r ∷ rs) applies = cond (applies r) (Failed r) (check rs applies)
 
 -- What a call answers, and the output afterwards.
 pub record Outcome : Type 0 where
   pub answer : Answer
   pub output : List ℕ
 
+abbrev pub outcome : Answer → (output : List ℕ) → Outcome
+outcome answer output = record { answer = answer; output = output }
+
 -- A refusal leaves the output as lent.
 abbrev pub refused : Refusal → (out : List ℕ) → Outcome
-refused r out = record { answer = Refused r; output = out }
+refused r out = outcome (Refused r) out
 
 -- Success answers the count of bytes written. They stand at the front of the output, and what lies behind them is untouched.
 abbrev pub success : (written out : List ℕ) → Outcome
-success written out = record { answer = Count (length written); output = written ++ drop (length written) out }
+success written out = outcome (Count (length written)) (written ++ drop (length written) out)
+
+-- What a call comes to when the rows have been tried.
+unfoldable pub settled : Check → (written out : List ℕ) → Outcome
+settled Passed written out = success written out
+settled (Failed r) written out = refused r out
 
 -- The first row that applies is the answer.
 unfoldable pub judged : List Refusal → (applies : Refusal → Bool) → (written out : List ℕ) → Outcome
-judged [] applies written out = success written out
-judged (r ∷ rs) applies written out = cond (applies r) (refused r out) (judged rs applies written out)
+judged rs applies written out = settled (check rs applies) written out

@@ -1,9 +1,10 @@
 -- Start-up (source document 000, section 2.2; document 01, "Start-up").
 use mathlib.Core.Bool.{Bool, true, false}
 use mathlib.Core.List.{List, [], _∷_, _++_, foldl}
-use Prim.Native.Nat.{ℕ, zero, suc}
+use Prim.Native.Nat.{ℕ}
 use lib.ListN.{take, drop, replicate}
 use Rattle.bits.specs.Bytes.{bits}
+use Rattle.bits.specs.Times.{times}
 use Rattle.preoutput.specs.Algebra.{single}
 use Rattle.preoutput.specs.Generator.{Generator, preoutput, fedBack, keyed}
 use Rattle.grain128aead.specs.Machine.{State}
@@ -12,14 +13,9 @@ use Rattle.grain128aead.specs.Machine.{State}
 unfoldable pub loaded : (key nonce : List ℕ) → Generator Bool
 loaded key nonce = record { lfsr = bits nonce ++ replicate 31 true ++ (false ∷ []); nfsr = bits key }
 
--- n clocks with the pre-output fed back.
-unfoldable pub fedBackFor : ℕ → Generator Bool → Generator Bool
-fedBackFor zero g = g
-fedBackFor (suc n) g = fedBackFor n (fedBack single g)
-
--- Clocks 0 to 255.
+-- Clocks 0 to 255, with the pre-output fed back.
 unfoldable pub warmed : (key nonce : List ℕ) → Generator Bool
-warmed key nonce = fedBackFor 256 (loaded key nonce)
+warmed key nonce = times 256 (fedBack single) (loaded key nonce)
 
 -- A clock for each key bit, which is added to the new LFSR bit only.
 unfoldable pub rekeyed : Generator Bool → (keyBits : List Bool) → Generator Bool

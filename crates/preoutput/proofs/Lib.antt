@@ -1,2 +1,4 @@
 pub mod Published
 pub mod Sizes
+pub mod Words
+pub mod Streams

@@ -1,8 +1,6 @@
 -- A clock keeps the sizes of the registers.
 -- Assumes nothing.
-use mathlib.Core.Path.{_≡_}
 use Prim.Native.Nat.{ℕ, _<_}
-use lib.ListN.{length}
 use Rattle.bits.proofs.Shift.{length-shift}
 use Rattle.preoutput.specs.Algebra.{Algebra}
 use Rattle.preoutput.specs.Generator.{Generator, clock, Sized}

@@ -1,7 +1,7 @@
 -- The pre-output generator: its two registers, its clock, and what the clock adds (source document 000, sections 2.1 and 2.2).
 use mathlib.Core.Path.{_≡_}
-use mathlib.Core.List.{List}
-use Prim.Native.Nat.{ℕ}
+use mathlib.Core.List.{List, [], _∷_}
+use Prim.Native.Nat.{ℕ, zero, suc}
 use lib.ListN.{length, getD}
 use Rattle.bits.specs.Strings.{shift}
 use Rattle.preoutput.specs.Algebra.{Algebra}
@@ -34,6 +34,11 @@ module _ {A : Type 0} (over : Algebra A) where
   -- Plain running: nothing is added.
   abbrev pub plain : Generator A → Generator A
   plain g = clock g (over .zero) (over .zero)
+
+  -- The pre-outputs of every second of 2n plain clocks, from the first on.
+  unfoldable pub everySecond : ℕ → Generator A → List A
+  everySecond zero g = []
+  everySecond (suc n) g = preoutput g ∷ everySecond n (plain (plain g))
 
   -- The pre-output is added to both new bits.
   abbrev pub fedBack : Generator A → Generator A

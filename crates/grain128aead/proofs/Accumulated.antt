@@ -3,28 +3,27 @@
 use mathlib.Core.Path.{_≡_, refl, sym, ap, ap₂, _∙_, fun-ext}
 use mathlib.Core.Bool.{Bool, true, false}
 use mathlib.Core.List.{List, [], _∷_, _++_, append-assoc}
-use Prim.Native.Nat.{ℕ, zero, suc, _+_, _*_, _<_}
-use native.Mathlib.Nat.{zero-add, le-refl}
-use native.Mathlib.Omega.{arith}
+use Prim.Native.Nat.{ℕ, _+_, _<_}
+use native.Mathlib.Nat.{le-refl}
 use lib.Dec.{lit<}
-use lib.ListN.{length, length-append, length-replicate}
+use lib.ListN.{length, length-replicate}
 use Rattle.bits.specs.Bytes.{bits, flip}
 use Rattle.bits.specs.Strings.{_⊞_, zeros}
 use Rattle.bits.proofs.Flip.{Flips, length-flip, bits-flip}
 use Rattle.bits.proofs.Packing.{length-bits}
-use Rattle.bits.proofs.Sum.{sum-assoc, sum-append, sum-zeros, length-sum}
+use Rattle.bits.proofs.Sum.{sum-assoc, sum-append, sum-zeros}
 use Rattle.authenticator.specs.Authenticator.{Authenticator, registerAfter}
 use Rattle.authenticator.specs.ClosedForm.{registersAt}
-use Rattle.authenticator.proofs.ClosedForm.{closed-form, length-registerAfter}
+use Rattle.authenticator.proofs.ClosedForm.{closed-form}
 use Rattle.authenticator.proofs.Linear.{registersAt-sum, registersAt-between, length-registersAt}
 use Rattle.grain128aead.specs.Sizes.{keySize, nonceSize}
 use Rattle.grain128aead.specs.StartUp.{initialised}
 use Rattle.grain128aead.specs.Machine.{run}
 use Rattle.grain128aead.specs.AuthenticatedString.{codedLength, header, authenticated}
-use Rattle.grain128aead.specs.Laws.{Sized, States, ClosedForm, registerAt}
+use Rattle.grain128aead.specs.Laws.{States, ClosedForm, registerAt}
 use Rattle.grain128aead.specs.Demand3.{flippedRegisters}
 use Rattle.grain128aead.proofs.Machine.{registerBits, run-authenticator, run-register, run-sized}
-use Rattle.grain128aead.proofs.StartUp.{initialised-sized}
+use Rattle.grain128aead.proofs.Loading.{initialised-sized}
 
 pub states : States
 states key nonce s k n = run-sized (initialised key nonce) s (initialised-sized key nonce k n)

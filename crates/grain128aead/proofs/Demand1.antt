@@ -12,13 +12,15 @@ use lib.ListN.{length, getD, take, drop}
 use lib.Seq.{take-at, drop-at}
 use Rattle.grain128aead.specs.declared.Refusal.{Refusal}
 use Rattle.grain128aead.specs.declared.Refusal.the-variants.{KeySize, NonceSize, AdTooLong, MessageTooLong, SealedTooShort, OutputTooShort, TagDiffers}
+use Rattle.grain128aead.specs.declared.Check.{Check}
+use Rattle.grain128aead.specs.declared.Check.the-variants.{Passed, Failed}
 use Rattle.grain128aead.specs.declared.Answer.{Answer}
 use Rattle.grain128aead.specs.declared.Answer.the-variants.{Count, Refused}
-use Rattle.grain128aead.specs.Refusals.{Outcome, number, order, refused, success, judged}
+use Rattle.grain128aead.specs.Refusals.{Outcome, sizeRefusals, order, refused, success, check, settled, judged}
 use Rattle.grain128aead.specs.Demand1.{Numbered, First, Accepts, Demand1}
 
 pub numbered : Numbered
-unfolding order
+unfolding order sizeRefusals
 numbered = refl
 
 count-not-refused : {a : Answer} {n : ℕ} {r : Refusal} → a ≡ Count n → a ≡ Refused r → ⊥
@@ -34,7 +36,7 @@ member (suc k) (r ∷ rs) d h = List·Memᴰ·tail (member k rs d (le-of-suc-le-
 
 -- Every refusal stands in the order.
 listed : (r : Refusal) → List·Memᴰ r order
-unfolding order
+unfolding order sizeRefusals
 listed KeySize = member 0 order KeySize (lit< tt)
 listed NonceSize = member 1 order NonceSize (lit< tt)
 listed AdTooLong = member 2 order AdTooLong (lit< tt)
@@ -60,23 +62,28 @@ view applies (r ∷ rs) = go (applies r) refl (view applies rs)
     go false e (inl v) = inl (v .0, (r ∷ v .1 .0, v .1 .1, ap (λ (l : List Refusal). r ∷ l) (v .1 .2), v .1 .3, clear-cons applies r (v .1 .0) e (v .1 .4)))
     go false e (inr clear) = inr (clear-cons applies r rs e clear)
 
+check-clear : (applies : Refusal → Bool) (rs : List Refusal) → Clear applies rs → check rs applies ≡ Passed
+unfolding check
+check-clear applies [] clear = refl
+check-clear applies (r ∷ rs) clear =
+    ap (λ (b : Bool). cond b (Failed r) (check rs applies)) (clear r (List·Memᴰ·head refl))
+    ∙ check-clear applies rs (λ q h. clear q (List·Memᴰ·tail h))
+
+check-at : (applies : Refusal → Bool) (earlier later : List Refusal) (r : Refusal) → applies r ≡ true → Clear applies earlier → check (earlier ++ (r ∷ later)) applies ≡ Failed r
+unfolding check
+check-at applies [] later r e clear = ap (λ (b : Bool). cond b (Failed r) (check later applies)) e
+check-at applies (q ∷ earlier) later r e clear =
+    ap (λ (b : Bool). cond b (Failed q) (check (earlier ++ (r ∷ later)) applies)) (clear q (List·Memᴰ·head refl))
+    ∙ check-at applies earlier later r e (λ p h. clear p (List·Memᴰ·tail h))
+
 module _ (applies : Refusal → Bool) (written out : List ℕ) where
   judged-clear : (rs : List Refusal) → Clear applies rs → judged rs applies written out ≡ success written out
-  unfolding judged
-  judged-clear [] clear = refl
-  judged-clear (r ∷ rs) clear =
-      ap (λ (b : Bool). cond b (refused r out) (judged rs applies written out)) (clear r (List·Memᴰ·head refl))
-      ∙ judged-clear rs (λ q h. clear q (List·Memᴰ·tail h))
-
-  judged-at : (earlier later : List Refusal) (r : Refusal) → applies r ≡ true → Clear applies earlier → judged (earlier ++ (r ∷ later)) applies written out ≡ refused r out
-  unfolding judged
-  judged-at [] later r e clear = ap (λ (b : Bool). cond b (refused r out) (judged later applies written out)) e
-  judged-at (q ∷ earlier) later r e clear =
-      ap (λ (b : Bool). cond b (refused q out) (judged (earlier ++ (r ∷ later)) applies written out)) (clear q (List·Memᴰ·head refl))
-      ∙ judged-at earlier later r e (λ p h. clear p (List·Memᴰ·tail h))
+  unfolding judged settled
+  judged-clear rs clear = ap (λ (c : Check). settled c written out) (check-clear applies rs clear)
 
   judged-first : (rs : List Refusal) (r : Refusal) → First rs applies r → judged rs applies written out ≡ refused r out
-  judged-first rs r h = ap (λ (l : List Refusal). judged l applies written out) (h .2) ∙ judged-at (h .0) (h .1) r (h .3) (h .4)
+  unfolding judged settled
+  judged-first rs r h = ap (λ (c : Check). settled c written out) (ap (λ (l : List Refusal). check l applies) (h .2) ∙ check-at applies (h .0) (h .1) r (h .3) (h .4))
 
   pub demand1 : Demand1 applies written out (judged order applies written out)
   demand1 = ⊎-elim (λ (v : (r : Refusal) × First order applies r). refuses (v .0) (v .1)) (λ (clear : Clear applies order). accepts clear) (view applies order)

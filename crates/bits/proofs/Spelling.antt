@@ -1,0 +1,89 @@
+-- The number that bytes spell, one byte after the other.
+-- Assumes nothing.
+use mathlib.Core.Path.{_≡_, sym, ap, ap₂, _∙_}
+use mathlib.Core.Bool.{Bool}
+use mathlib.Core.List.{List, [], _∷_, _++_, append-nil}
+use Prim.Native.Nat.{ℕ, zero, suc, _+_, _-_, _*_, _/_, _%_, _^_, _<_}
+use native.Mathlib.Nat.{not-suc-le-zero, le-of-suc-le-suc, mul-suc, add-comm, suc-sub-suc, sub-zero, mod-lt, zero-mul, zero-add, add-assoc, add-mul, mul-assoc, mod-mod, mod-eq-of-lt}
+use lib.Bits.{bitOr, or-shifted}
+use lib.Pow.{pow-pos, split, pow-add, high, low, mod-pow-add, mod-mod-pow}
+use lib.ListN.{length, getD, take, drop, length-append}
+use lib.Seq.{take-suc, take-at, drop-at}
+use Rattle.bits.specs.Bit.{digit}
+use Rattle.bits.specs.Bytes.{word, value, bits, bytes}
+use Rattle.bits.proofs.Packing.{bits-append, length-bits}
+use Rattle.bits.proofs.Word.{value-word, word-value, word-agrees, word-append, length-word, shl-mod}
+
+pub value-append : (s t : List Bool) → value (s ++ t) ≡ value s * 2 ^ length t + value t
+unfolding value
+value-append [] t = sym (ap (λ (x : ℕ). x + value t) (zero-mul (2 ^ length t)) ∙ zero-add (value t))
+value-append (b ∷ s) t =
+    ap₂ (λ (p q : ℕ). digit b * p + q) (ap (λ (n : ℕ). 2 ^ n) (length-append s t) ∙ pow-add 2 (length s) (length t)) (value-append s t)
+    ∙ ap (λ (x : ℕ). x + (value s * 2 ^ length t + value t)) (sym (mul-assoc (digit b) (2 ^ length s) (2 ^ length t)))
+    ∙ sym (add-assoc (digit b * 2 ^ length s * 2 ^ length t) (value s * 2 ^ length t) (value t))
+    ∙ ap (λ (x : ℕ). x + value t) (sym (add-mul (digit b * 2 ^ length s) (value s) (2 ^ length t)))
+
+-- One byte more.
+value-byte : (s : List ℕ) (i : ℕ) → i < length s → getD s i 0 < 256 → value (bits (take (suc i) s)) ≡ value (bits (take i s)) * 2 ^ 8 + getD s i 0
+unfolding bits
+value-byte s i h b =
+    ap (λ (l : List ℕ). value (bits l)) (take-suc s i 0 h)
+    ∙ ap value (bits-append (take i s) (getD s i 0 ∷ []) ∙ ap (λ (r : List Bool). bits (take i s) ++ r) (append-nil (word 8 (getD s i 0))))
+    ∙ value-append (bits (take i s)) (word 8 (getD s i 0))
+    ∙ ap₂ (λ (k v : ℕ). value (bits (take i s)) * 2 ^ k + v) (length-word 8 (getD s i 0)) (value-word 8 (getD s i 0) ∙ mod-eq-of-lt b)
+
+-- A byte moved into a word of 64 bits.
+byte-in : (n b : ℕ) → b < 2 ^ 8 → bitOr (n % 2 ^ 64 * 2 ^ 8 % 2 ^ 64) b ≡ (n * 2 ^ 8 + b) % 2 ^ 64
+byte-in n b h =
+    ap (λ (x : ℕ). bitOr x b) (shl-mod 56 8 (n % 2 ^ 64) ∙ ap (λ (x : ℕ). x * 2 ^ 8) (mod-mod-pow n 8 56))
+    ∙ or-shifted (n % 2 ^ 56) 8 b h
+    ∙ sym (mod-pow-add (n * 2 ^ 8 + b) 56 8 ∙ ap₂ (λ (x y : ℕ). x % 2 ^ 56 * 2 ^ 8 + y) (high n 8 h) (low n 8 h))
+
+pub number-turn : (s : List ℕ) (i n b : ℕ) → i < length s → getD s i 0 < 256 → b ≡ getD s i 0 → n ≡ value (bits (take i s)) % 2 ^ 64
+    → bitOr (n * 2 ^ 8 % 2 ^ 64) b ≡ value (bits (take (suc i) s)) % 2 ^ 64
+number-turn s i n b h small eb en =
+    ap₂ (λ (x y : ℕ). bitOr (x * 2 ^ 8 % 2 ^ 64) y) en eb
+    ∙ byte-in (value (bits (take i s))) (getD s i 0) small
+    ∙ ap (λ (x : ℕ). x % 2 ^ 64) (sym (value-byte s i h small))
+
+-- Eight bytes, or four above 32 given bits, as a word.
+pub spelled-eight : (s : List ℕ) (n : ℕ) → length s ≡ 8 → n ≡ value (bits s) % 2 ^ 64 → word 64 n ≡ bits s
+spelled-eight s n len e =
+    ap (word 64) e ∙ word-agrees 64 (value (bits s) % 2 ^ 64) (value (bits s)) (mod-mod (value (bits s)) (2 ^ 64))
+    ∙ ap (λ (k : ℕ). word k (value (bits s))) (sym (length-bits s ∙ ap (λ (k : ℕ). 8 * k) len)) ∙ word-value (bits s)
+
+pub spelled-four : (s : List ℕ) (n low : ℕ) → length s ≡ 4 → low < 2 ^ 32 → n ≡ value (bits s) % 2 ^ 64 → word 64 (bitOr (n * 2 ^ 32 % 2 ^ 64) low) ≡ bits s ++ word 32 low
+spelled-four s n low len h e =
+    ap (λ (x : ℕ). word 64 (bitOr x low)) (shl-mod 32 32 n)
+    ∙ ap (word 64) (or-shifted (n % 2 ^ 32) 32 low h)
+    ∙ word-append 32 32 (n % 2 ^ 32) low h
+    ∙ ap (λ (r : List Bool). r ++ word 32 low)
+    (word-agrees 32 (n % 2 ^ 32) (value (bits s)) (mod-mod n (2 ^ 32) ∙ ap (λ (x : ℕ). x % 2 ^ 32) e ∙ mod-mod-pow (value (bits s)) 32 32)
+    ∙ ap (λ (k : ℕ). word k (value (bits s))) (sym (length-bits s ∙ ap (λ (k : ℕ). 8 * k) len)) ∙ word-value (bits s))
+
+-- The bytes of a word, high byte first.
+bytes-word-cons : (n w : ℕ) → bytes (suc n) (word (8 * suc n) w) ≡ (w / 2 ^ (8 * n) % 256) ∷ bytes n (word (8 * n) w)
+unfolding bytes
+bytes-word-cons n w =
+    ap (λ (r : List Bool). value (take 8 r) ∷ bytes n (drop 8 r)) split-word
+    ∙ ap₂ _∷_ (ap value (take-at top (word (8 * n) w) 8 eight) ∙ value-word 8 (w / 2 ^ (8 * n))) (ap (bytes n) (drop-at top (word (8 * n) w) 8 eight))
+  where
+    top : List Bool
+    top = word 8 (w / 2 ^ (8 * n))
+
+    eight : length top ≡ 8
+    eight = length-word 8 (w / 2 ^ (8 * n))
+
+    split-word : word (8 * suc n) w ≡ top ++ word (8 * n) w
+    split-word =
+        ap₂ word (mul-suc 8 n ∙ add-comm (8 * n) 8) (sym (split w (8 * n)))
+        ∙ word-append 8 (8 * n) (w / 2 ^ (8 * n)) (w % 2 ^ (8 * n)) (mod-lt w (pow-pos (8 * n)))
+        ∙ ap (λ (r : List Bool). top ++ r) (word-agrees (8 * n) (w % 2 ^ (8 * n)) w (mod-mod w (2 ^ (8 * n))))
+
+pub bytes-word : (n w i : ℕ) → i < n → getD (bytes n (word (8 * n) w)) i 0 ≡ w / 2 ^ (8 * (n - suc i)) % 256
+bytes-word zero w i h = absurd (not-suc-le-zero h)
+bytes-word (suc n) w zero h =
+    ap (λ (l : List ℕ). getD l 0 0) (bytes-word-cons n w) ∙ ap (λ (k : ℕ). w / 2 ^ (8 * k) % 256) (sym (suc-sub-suc n 0 ∙ sub-zero n))
+bytes-word (suc n) w (suc i) h =
+    ap (λ (l : List ℕ). getD l (suc i) 0) (bytes-word-cons n w) ∙ bytes-word n w i (le-of-suc-le-suc h)
+    ∙ ap (λ (k : ℕ). w / 2 ^ (8 * k) % 256) (sym (suc-sub-suc n (suc i)))

@@ -1,0 +1,204 @@
+-- What the entry points owe beside the walk of their code: the sizes that a passed check tells, the tag as a word, and the output.
+-- Assumes nothing.
+use mathlib.Core.Path.{_≡_, refl, sym, ap, ap₂, _∙_}
+use mathlib.Core.Bool.{Bool, true, false, cond}
+use mathlib.Core.List.{List, [], _∷_, _++_}
+use Prim.Native.Nat.{ℕ, _+_, _-_, _%_, _^_, _≤_, _<_}
+use native.Mathlib.Nat.{mod-eq-of-lt, mod-mod}
+use native.Mathlib.Omega.{arith}
+use borrow.Author.Tests.{ltb-false}
+use lib.Dec.{ltb}
+use lib.ListN.{length, take, drop}
+use lib.Seq.{paste, take-at, drop-at, take-all, drop-drop}
+use Rattle.bits.specs.Bytes.{Bytes, word, value, bits, bytes, same}
+use Rattle.bits.proofs.Packing.{bytes-bits, bits-bytes, length-bits, Bytes-drop}
+use Rattle.bits.proofs.Spelling.{spelled-eight}
+use Rattle.bits.proofs.Word.{length-word, value-word}
+use Rattle.grain128aead.specs.declared.Check.{Check}
+use Rattle.grain128aead.specs.declared.Check.the-variants.{Passed, Failed}
+use Rattle.grain128aead.specs.declared.Refusal.{Refusal}
+use Rattle.grain128aead.specs.declared.Refusal.the-variants.{TagDiffers}
+use Rattle.grain128aead.specs.declared.engine.Engine.{Engine}
+use Rattle.grain128aead.specs.declared.Answer.the-variants.{Count, Refused}
+use Rattle.grain128aead.specs.Sizes.{tagSize, messageLimit}
+use Rattle.grain128aead.specs.StartUp.{initialised}
+use Rattle.grain128aead.specs.Machine.{State, run, crypt, decipher}
+use Rattle.grain128aead.specs.AuthenticatedString.{header, authenticated}
+use Rattle.grain128aead.specs.Payload.{begun, ciphertext, deciphered, tag, payload, ciphertextPart, tagPart}
+use Rattle.grain128aead.specs.Refusals.{outcome, refused, success, settled, judged}
+use Rattle.grain128aead.specs.Calls.{rows, sealed, recovered, tagDiffers, opened}
+use Rattle.grain128aead.specs.Engine.{stateOf, CryptsAll}
+use Rattle.grain128aead.proofs.Demand1.{demand1}
+use Rattle.grain128aead.proofs.Machine.{run-append}
+use Rattle.grain128aead.proofs.OverBytes.{length-crypt}
+use Rattle.grain128aead.proofs.Payload.{lengths, length-ciphertext, length-payload, length-tag, length-deciphered, tagPart-is}
+use Rattle.grain128aead.proofs.Rows.{Clear, rows-clear, tag-authentic, authentic-tag}
+use Rattle.grain128aead.proofs.Settled.{sizesOf, after, check-rows, sealed-settled, opened-settled, settled-tag}
+
+-- A check that passed tells every size.
+pub passed-clear : (key nonce ad : List ℕ) (tooLong tooShort noRoom : Bool) → sizesOf key nonce ad tooLong tooShort noRoom ≡ Passed → Clear key nonce ad tooLong tooShort noRoom false
+unfolding judged settled
+passed-clear key nonce ad tooLong tooShort noRoom e =
+    rows-clear key nonce ad tooLong tooShort noRoom false
+    (demand1 (rows key nonce ad tooLong tooShort noRoom false) [] [] .accepts .0
+    (0, ap (λ (c : Check). settled c [] [] .answer) (check-rows key nonce ad tooLong tooShort noRoom false ∙ ap (λ (c : Check). after c false) e)))
+
+-- The tag, from the machine where the message begins.
+module _ (key nonce ad message : List ℕ) where
+  tag-run : run (run (begun key nonce ad) (bits message)) (true ∷ []) .authenticator .accumulator ≡ run (initialised key nonce) (authenticated ad message) .authenticator .accumulator
+  unfolding begun authenticated
+  tag-run =
+      ap (λ (st : State). st .authenticator .accumulator)
+      (ap (λ (st : State). run st (true ∷ [])) (sym (run-append (initialised key nonce) (header ad) (bits message)))
+      ∙ sym (run-append (initialised key nonce) (header ad ++ bits message) (true ∷ [])))
+
+  pub tag-word : (st : State) (t : ℕ) → st ≡ run (begun key nonce ad) (bits message) → word 64 t ≡ run st (true ∷ []) .authenticator .accumulator → bytes 8 (word 64 t) ≡ tag key nonce ad message
+  unfolding tag
+  tag-word st t e h = ap (bytes 8) (h ∙ ap (λ (s : State). run s (true ∷ []) .authenticator .accumulator) e ∙ tag-run)
+
+  -- The output after sealing: the ciphertext was written, then the tag behind it.
+  pub sealed-output : (lent out written : List ℕ) → length message + tagSize ≤ length lent
+      → out ≡ ciphertext key nonce ad message ++ drop (length message) lent
+      → written ≡ paste out (length message) (tag key nonce ad message) 8
+      → outcome (Count (length message + tagSize)) written ≡ success (payload key nonce ad message) lent
+  unfolding payload
+  sealed-output lent out written room first second = ap₂ outcome (ap Count (sym (length-payload key nonce ad message))) (second ∙ pasted)
+    where
+      c : List ℕ
+      c = ciphertext key nonce ad message
+
+      t : List ℕ
+      t = tag key nonce ad message
+
+      behind : drop (length message) out ≡ drop (length message) lent
+      behind = ap (drop (length message)) first ∙ drop-at c (drop (length message) lent) (length message) (length-ciphertext key nonce ad message)
+
+      pasted : paste out (length message) t 8 ≡ c ++ t ++ drop (length (c ++ t)) lent
+      pasted =
+          ap₂ (λ (x y : List ℕ). x ++ take 8 t ++ y)
+          (ap (take (length message)) first ∙ take-at c (drop (length message) lent) (length message) (length-ciphertext key nonce ad message))
+          (sym (drop-drop 8 (length message) out) ∙ ap (drop 8) behind ∙ drop-drop 8 (length message) lent ∙ ap (λ (k : ℕ). drop k lent) (sym (length-payload key nonce ad message)))
+          ∙ ap (λ (x : List ℕ). c ++ x ++ drop (length (c ++ t)) lent) (take-all 8 t (omega (arith, length-tag key nonce ad message)))
+
+-- The received tag is the computed one exactly when their words are the same number.
+module _ (received : List ℕ) (computed : List Bool) (r n : ℕ) (eight : length received ≡ 8) (isBytes : Bytes received)
+    (long : length computed ≡ 64) (small : r < 2 ^ 64) (spelled : n ≡ value (bits received) % 2 ^ 64) (tagged : word 64 r ≡ computed) where
+  pub same-number : r ≡ n → received ≡ bytes 8 computed
+  same-number e =
+      sym (ap (λ (k : ℕ). bytes k (bits received)) (sym eight) ∙ bytes-bits received isBytes)
+      ∙ ap (bytes 8) (sym (spelled-eight received n eight spelled) ∙ ap (word 64) (sym e) ∙ tagged)
+
+  pub same-tag : received ≡ bytes 8 computed → r ≡ n
+  same-tag e =
+      sym (mod-eq-of-lt small) ∙ sym (value-word 64 r)
+      ∙ ap value (tagged ∙ sym (ap bits e ∙ bits-bytes 8 computed long) ∙ sym (spelled-eight received n eight spelled))
+      ∙ value-word 64 n ∙ ap (λ (k : ℕ). k % 2 ^ 64) spelled ∙ mod-mod (value (bits received)) (2 ^ 64) ∙ sym spelled
+
+-- The message that a ciphertext hides, as bits.
+pub deciphered-bits : (key nonce ad c : List ℕ) → bits (deciphered key nonce ad c) ≡ decipher (begun key nonce ad) (bits c)
+unfolding deciphered
+deciphered-bits key nonce ad c = bits-bytes (length c) (decipher (begun key nonce ad) (bits c)) (length-crypt false (begun key nonce ad) (bits c) ∙ length-bits c)
+
+-- ---- sealing
+
+-- What the check of the sizes says when sealing.
+abbrev pub sealingSizes : (key nonce ad message lent : List ℕ) → Check
+sealingSizes key nonce ad message lent = sizesOf key nonce ad (ltb messageLimit (length message)) false (ltb (length lent) (length message + tagSize))
+
+pub record SealChecked (key nonce ad message lent : List ℕ) (c : Check) : Type 0 where
+  pub checked : c ≡ sealingSizes key nonce ad message lent
+
+module _ {key nonce ad message lent : List ℕ} {c : Check} (sizes : SealChecked key nonce ad message lent c) where
+  pub seal-failed : {r : Refusal} → c ≡ Failed r → outcome (Refused r) lent ≡ sealed key nonce ad message lent
+  unfolding settled
+  seal-failed e = sym (sealed-settled key nonce ad message lent ∙ ap (λ (d : Check). settled d (payload key nonce ad message) lent) (sym (sizes .checked) ∙ e))
+
+  module _ (e : c ≡ Passed) where
+    pub seal-clear : Clear key nonce ad (ltb messageLimit (length message)) false (ltb (length lent) (length message + tagSize)) false
+    seal-clear = passed-clear key nonce ad _ _ _ (sym (sizes .checked) ∙ e)
+
+    pub seal-room : length message + tagSize ≤ length lent
+    seal-room = ltb-false (length lent) (length message + tagSize) (seal-clear .room)
+
+    pub seal-passed : (b done : Engine) (t : ℕ) {out written : List ℕ} → stateOf b ≡ begun key nonce ad → CryptsAll true (stateOf b) message lent out done
+        → word 64 t ≡ run (stateOf done) (true ∷ []) .authenticator .accumulator → written ≡ paste out (length message) (bytes 8 (word 64 t)) 8
+        → outcome (Count (length message + tagSize)) written ≡ sealed key nonce ad message lent
+    unfolding ciphertext settled
+    seal-passed b done t {out} {written} began crypted tagged stored =
+        sealed-output key nonce ad message lent out written seal-room
+        (crypted .written ∙ ap (λ (st : State). bytes (length message) (crypt true st (bits message)) ++ drop (length message) lent) began)
+        (stored ∙ ap (λ (s : List ℕ). paste out (length message) s 8) (tag-word key nonce ad message (stateOf done) t (crypted .engine ∙ ap (λ (st : State). run st (bits message)) began) tagged))
+        ∙ sym (sealed-settled key nonce ad message lent ∙ ap (λ (d : Check). settled d (payload key nonce ad message) lent) (sym (sizes .checked) ∙ e))
+
+-- ---- opening
+
+-- What the check of the sizes says when opening.
+abbrev pub openingSizes : (key nonce ad input lent : List ℕ) → Check
+openingSizes key nonce ad input lent = sizesOf key nonce ad (ltb (messageLimit + tagSize) (length input)) (ltb (length input) tagSize) (ltb (length lent) (length input - tagSize))
+
+pub record OpenChecked (key nonce ad input lent : List ℕ) (c : Check) : Type 0 where
+  pub checked : c ≡ openingSizes key nonce ad input lent
+
+-- The two words that opening compares: `r`, of the computed tag, and `n`, of the received one.
+pub record Compared (key nonce ad input : List ℕ) (b done : Engine) (r n : ℕ) : Type 0 where
+  pub isBytes : Bytes input
+  pub began : stateOf b ≡ begun key nonce ad
+  pub ran : stateOf done ≡ run (stateOf b) (decipher (stateOf b) (bits (ciphertextPart input)))
+  pub tagged : word 64 r ≡ run (stateOf done) (true ∷ []) .authenticator .accumulator
+  pub small : r < 2 ^ 64
+  pub spelled : n ≡ value (bits (tagPart input)) % 2 ^ 64
+
+module _ {key nonce ad input lent : List ℕ} {c : Check} (sizes : OpenChecked key nonce ad input lent c) where
+  pub open-failed : {r : Refusal} → c ≡ Failed r → outcome (Refused r) lent ≡ opened key nonce ad input lent
+  unfolding settled
+  open-failed e =
+      sym (opened-settled key nonce ad input lent ∙ ap (λ (d : Check). settled (after d (tagDiffers key nonce ad input)) (recovered key nonce ad input) lent) (sym (sizes .checked) ∙ e))
+
+  module _ (e : c ≡ Passed) where
+    pub open-clear : Clear key nonce ad (ltb (messageLimit + tagSize) (length input)) (ltb (length input) tagSize) (ltb (length lent) (length input - tagSize)) false
+    open-clear = passed-clear key nonce ad _ _ _ (sym (sizes .checked) ∙ e)
+
+    pub open-reaches : tagSize ≤ length input
+    open-reaches = ltb-false (length input) tagSize (open-clear .reaches)
+
+    pub open-room : length input - tagSize ≤ length lent
+    open-room = ltb-false (length lent) (length input - tagSize) (open-clear .room)
+
+    by-tag : (differs : Bool) → tagDiffers key nonce ad input ≡ differs → opened key nonce ad input lent ≡ cond differs (refused TagDiffers lent) (success (recovered key nonce ad input) lent)
+    by-tag differs h =
+        opened-settled key nonce ad input lent
+        ∙ ap₂ (λ (d : Check) (b : Bool). settled (after d b) (recovered key nonce ad input) lent) (sym (sizes .checked) ∙ e) h
+        ∙ settled-tag differs (recovered key nonce ad input) lent
+
+    -- The computed tag, from the machine after the message that the input hides.
+    module _ {b done : Engine} {r n : ℕ} (words : Compared key nonce ad input b done r n) where
+      computed : bytes 8 (word 64 r) ≡ tag key nonce ad (recovered key nonce ad input)
+      unfolding recovered
+      computed =
+          tag-word key nonce ad (recovered key nonce ad input) (stateOf done) r
+          (words .ran ∙ ap (λ (st : State). run st (decipher st (bits (ciphertextPart input)))) (words .began) ∙ ap (run (begun key nonce ad)) (sym (deciphered-bits key nonce ad (ciphertextPart input)))) (words .tagged)
+
+      eight : length (tagPart input) ≡ 8
+      eight = lengths key nonce ad [] input .tagPart open-reaches
+
+      tag-bytes : Bytes (tagPart input)
+      tag-bytes = rw (tagPart-is input open-reaches) (Bytes-drop (length input - tagSize) input (words .isBytes))
+
+      pub open-passed : {last : Engine} {out : List ℕ} → r ≡ n → CryptsAll false (stateOf b) (ciphertextPart input) lent out last → outcome (Count (length input - tagSize)) out ≡ opened key nonce ad input lent
+      unfolding recovered deciphered
+      open-passed {last} {out} same crypted =
+          ap₂ outcome (ap Count counted) (crypted .written ∙ ap₂ (λ (st : State) (k : ℕ). bytes (length part) (decipher st (bits part)) ++ drop k lent) (words .began) (sym (length-deciphered key nonce ad part)))
+          ∙ sym (by-tag false (authentic-tag key nonce ad input (same-number (tagPart input) (word 64 r) r n eight tag-bytes (length-word 64 r) (words .small) (words .spelled) refl same ∙ computed)))
+        where
+          part : List ℕ
+          part = ciphertextPart input
+
+          counted : length input - tagSize ≡ length (recovered key nonce ad input)
+          counted = sym (length-deciphered key nonce ad part ∙ lengths key nonce ad [] input .ciphertextPart open-reaches)
+
+      pub open-differs : (r ≡ n → ⊥) → outcome (Refused TagDiffers) lent ≡ opened key nonce ad input lent
+      open-differs differs = go (tagDiffers key nonce ad input) refl
+        where
+          go : (d : Bool) → tagDiffers key nonce ad input ≡ d → outcome (Refused TagDiffers) lent ≡ opened key nonce ad input lent
+          go true h = sym (by-tag true h)
+          go false h = absurd (differs (same-tag (tagPart input) (word 64 r) r n eight tag-bytes (length-word 64 r) (words .small) (words .spelled) refl (tag-authentic key nonce ad input h ∙ sym computed)))

@@ -1,0 +1,174 @@
+-- `grain128aead::open` meets its contract.
+-- Assumes nothing.
+use mathlib.Core.Path.{_≡_, sym, ap, _∙_, subst}
+use mathlib.Core.List.{List, []}
+use Prim.Native.Nat.{ℕ, _+_, _-_, _≤_}
+use native.Mathlib.Decide.{decLt}
+use native.Mathlib.Omega.{arith}
+use borrow.Author.Needs.{needs}
+use borrow.Author.Tests.{lt-ltb, le-ltb}
+use lib.Dec.{ltb}
+use lib.ListN.{length}
+use Rattle.bits.specs.Bytes.{Bytes}
+use Rattle.grain128aead.specs.declared.Check.{Check}
+use Rattle.grain128aead.specs.Sizes.{tagSize, messageLimit}
+use Rattle.grain128aead.specs.Refusals.{Outcome}
+use Rattle.grain128aead.specs.Calls.{openingRow, recovered, opened}
+use Rattle.grain128aead.specs.Demand1.{Demand1}
+use Rattle.grain128aead.specs.Demand2.{Demand2}
+use Rattle.grain128aead.specs.Demand3.{Demand3}
+use Rattle.grain128aead.proofs.Demand2.{demand1-opening, demand2}
+use Rattle.grain128aead.proofs.Demand3.{demand3}
+use Rattle.grain128aead.proofs.Entry.{openingSizes, OpenChecked, Compared, open-failed, open-clear, open-reaches, open-room, open-passed, open-differs}
+use Rattle.grain128aead.proofs.Payload.{lengths}
+use Rattle.grain128aead.proofs.Settled.{sizesOf}
+use Rattle.grain128aead.proofs.open.Statement.{statement}
+use Rattle.grain128aead.proofs.open.Tie as tie
+
+-- The call's four clauses from the first of them.
+called : (key nonce ad input out : List ℕ) {o : Outcome} → Bytes input → o ≡ opened key nonce ad input out
+    → (o ≡ opened key nonce ad input out)
+    × (Demand1 (openingRow key nonce ad input out) (recovered key nonce ad input) out o × (Demand2 key nonce ad input out o × Demand3 key nonce ad input out o))
+called key nonce ad input out b e = (
+  e,
+  (
+    subst (Demand1 (openingRow key nonce ad input out) (recovered key nonce ad input) out) (sym e) (demand1-opening key nonce ad input out),
+    (
+      subst (Demand2 key nonce ad input out) (sym e) (demand2 key nonce ad input out b),
+      subst (Demand3 key nonce ad input out) (sym e) (demand3 key nonce ad input out),
+    ),
+  ),
+)
+
+-- No room for the message, tested without a difference.
+no-room : (a n : ℕ) → ltb (a + 8) n ≡ ltb a (n - 8)
+no-room a n = elim (decLt (a + 8) n) [ yes h ↦ lt-ltb (a + 8) n h ∙ sym (lt-ltb a (n - 8) (omega arith)) | no h ↦ le-ltb (a + 8) n (omega arith) ∙ sym (le-ltb a (n - 8) (omega arith)) ]
+
+sized : (key nonce ad input lent : List ℕ) {c : Check} → c ≡ sizesOf key nonce ad (ltb (messageLimit + tagSize) (length input)) (ltb (length input) tagSize) (ltb (length lent + 8) (length input)) → c ≡ openingSizes key nonce ad input lent
+sized key nonce ad input lent e = e ∙ ap (sizesOf key nonce ad (ltb (messageLimit + tagSize) (length input)) (ltb (length input) tagSize)) (no-room (length lent) (length input))
+
+checked : (j : tie.After-judge) →
+    let a = j .before .before .before .before .before .before .args in
+    OpenChecked (a .key .now) (a .nonce .now) (a .ad .now) (a .input .now) (a .out .now) (j .judge .result)
+unfolding messageLimit
+checked j =
+    let a = j .before .before .before .before .before .before .args in
+    record { checked = sized (a .key .now) (a .nonce .now) (a .ad .now) (a .input .now) (a .out .now) (j .judge .ensures) }
+
+is-bytes : (j : tie.After-judge) → Bytes (j .before .before .before .before .before .before .args .input .now)
+is-bytes j i = omega (arith, j .before .before .shared-slice-known4 .given i)
+
+compared : (n : tie.After-number) →
+    let a = n .before .before .before .before .before .before .before .before .before .before .before .before .before .before .args in
+    Compared (a .key .now) (a .nonce .now) (a .ad .now) (a .input .now) (n .before .before .before .before .begin .result) (n .before .before .before .decipher-all .result) (n .before .before .finish .result) (n .number .result)
+compared n =
+    let p = n .before .before .before .before .before in
+    record {
+      isBytes = is-bytes (p .before .before .before);
+      began = n .before .before .before .before .begin .ensures;
+      ran = rw (p .ciphertext-part .ensures) at (n .before .before .before .decipher-all .ensures);
+      tagged = n .before .before .finish .ensures;
+      small = omega (arith, n .before .before .finish .ok);
+      spelled = rw (n .before .tag-part .ensures) at (n .number .ensures);
+    }
+
+fits : (p : tie.After-ciphertext-part) → length (p .ciphertext-part .result .now) ≤ length (p .before .before .before .before .before .before .before .before .before .args .out .now)
+fits p =
+    let j = p .before .before .before in
+    let a = j .before .before .before .before .before .before .args in
+    omega (
+      arith,
+      ap length (p .ciphertext-part .ensures),
+      lengths (a .key .now) (a .nonce .now) (a .ad .now) [] (a .input .now) .ciphertextPart (open-reaches (checked j) (p .before .enum-told .given .1)),
+      open-room (checked j) (p .before .enum-told .given .1),
+    )
+
+add-too-long : tie.Need-add-too-long
+add-too-long c = search needs
+
+add-no-room : tie.Need-add-no-room
+add-no-room c = search needs
+
+judge-requires : tie.Need-judge-requires
+judge-requires c κs = search needs
+
+enum-known-r : tie.Need-enum-known-r
+enum-known-r c = search needs
+
+enum-told : tie.Need-enum-told
+enum-told c = search needs
+
+ciphertext-part-requires : tie.Need-ciphertext-part-requires
+ciphertext-part-requires c κs = search needs
+
+begin-requires : tie.Need-begin-requires
+begin-requires c κs =
+    let h = open-clear (checked (c .before .before .before)) (c .before .enum-told .given .1) in
+    (h .keySized, h .nonceSized, h .adFits)
+
+decipher-all-requires : tie.Need-decipher-all-requires
+decipher-all-requires c κs = search needs
+
+finish-requires : tie.Need-finish-requires
+finish-requires c κs = search needs
+
+tag-part-requires : tie.Need-tag-part-requires
+tag-part-requires c κs = search needs
+
+number-requires : tie.Need-number-requires
+number-requires c κs = search needs
+
+crypt-all-requires : tie.Need-crypt-all-requires
+crypt-all-requires c κs = fits (c .before .before .before .before .before .before .before)
+
+sub-t26 : tie.Need-sub-t26
+sub-t26 c =
+    let p = c .before .before .before .before .before .before .before .before .before .before in
+    omega (arith, open-reaches (checked (p .before .before .before)) (p .before .enum-told .given .1))
+
+returns : tie.Need-returns
+returns c =
+    let j = c .before .before .before in
+    let a = j .before .before .before .before .before .before .args in
+    called (a .key .now) (a .nonce .now) (a .ad .now) (a .input .now) (a .out .now) (is-bytes j) (open-failed (checked j) (c .before .r .given .1))
+
+same-length : tie.Need-same-length
+same-length c = search needs
+
+returns-2 : tie.Need-returns-2
+returns-2 c =
+    let n = c .before .before .before .before .before in
+    let p = n .before .before .before .before .before in
+    let j = p .before .before .before in
+    let a = j .before .before .before .before .before .before .args in
+    called (a .key .now) (a .nonce .now) (a .ad .now) (a .input .now) (a .out .now) (is-bytes j)
+    (open-passed (checked j) (p .before .enum-told .given .1) (compared n) (c .before .before .before .before .if1 .taken) (rw (p .ciphertext-part .ensures) at (c .before .before .crypt-all .ensures)))
+
+returns-3 : tie.Need-returns-3
+returns-3 c =
+    let p = c .before .before .before .before .before .before in
+    let j = p .before .before .before in
+    let a = j .before .before .before .before .before .before .args in
+    called (a .key .now) (a .nonce .now) (a .ad .now) (a .input .now) (a .out .now) (is-bytes j) (open-differs (checked j) (p .before .enum-told .given .1) (compared (c .before)) (c .if1 .left))
+
+pub open-spec : {M : Type 1} → statement M
+open-spec =
+    tie.close
+    (tie.spec
+    add-too-long
+    add-no-room
+    judge-requires
+    enum-known-r
+    enum-told
+    ciphertext-part-requires
+    begin-requires
+    decipher-all-requires
+    finish-requires
+    tag-part-requires
+    number-requires
+    crypt-all-requires
+    sub-t26
+    returns
+    same-length
+    returns-2
+    returns-3)

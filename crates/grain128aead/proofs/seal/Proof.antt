@@ -1,0 +1,103 @@
+-- `grain128aead::seal` meets its contract.
+-- Assumes nothing.
+use mathlib.Core.Path.{_≡_, sym, subst}
+use mathlib.Core.List.{List}
+use Prim.Native.Nat.{ℕ}
+use native.Mathlib.Omega.{arith}
+use borrow.Author.Needs.{needs}
+use Rattle.grain128aead.specs.Sizes.{messageLimit}
+use Rattle.grain128aead.specs.Payload.{payload}
+use Rattle.grain128aead.specs.Refusals.{Outcome}
+use Rattle.grain128aead.specs.Calls.{sealingRow, sealed}
+use Rattle.grain128aead.specs.Demand1.{Demand1}
+use Rattle.grain128aead.specs.Demand2.{Sealing}
+use Rattle.grain128aead.proofs.Demand2.{demand1-sealing, sealing}
+use Rattle.grain128aead.proofs.Entry.{SealChecked, seal-failed, seal-clear, seal-room, seal-passed}
+use Rattle.grain128aead.proofs.seal.Statement.{statement}
+use Rattle.grain128aead.proofs.seal.Tie as tie
+
+-- The call's three clauses from the first of them.
+called : (key nonce ad message out : List ℕ) {o : Outcome} → o ≡ sealed key nonce ad message out
+    → (o ≡ sealed key nonce ad message out)
+    × (Demand1 (sealingRow key nonce ad message out) (payload key nonce ad message) out o × Sealing key nonce ad message out o)
+called key nonce ad message out e = (
+  e,
+  (
+    subst (Demand1 (sealingRow key nonce ad message out) (payload key nonce ad message) out) (sym e) (demand1-sealing key nonce ad message out),
+    subst (Sealing key nonce ad message out) (sym e) (sealing key nonce ad message out),
+  ),
+)
+
+checked : (j : tie.After-judge) →
+    let a = j .before .before .before .before .before .before .args in
+    SealChecked (a .key .now) (a .nonce .now) (a .ad .now) (a .message .now) (a .out .now) (j .judge .result)
+unfolding messageLimit
+checked j = record { checked = j .judge .ensures }
+
+add-no-room : tie.Need-add-no-room
+add-no-room c = search needs
+
+judge-requires : tie.Need-judge-requires
+judge-requires c κs = search needs
+
+enum-known-r : tie.Need-enum-known-r
+enum-known-r c = search needs
+
+enum-told : tie.Need-enum-told
+enum-told c = search needs
+
+begin-requires : tie.Need-begin-requires
+begin-requires c κs =
+    let h = seal-clear (checked (c .before .before)) (c .enum-told .given .1) in
+    (h .keySized, h .nonceSized, h .adFits)
+
+crypt-all-requires : tie.Need-crypt-all-requires
+crypt-all-requires c κs = omega (arith, seal-room (checked (c .before .before .before .before)) (c .before .before .enum-told .given .1))
+
+finish-requires : tie.Need-finish-requires
+finish-requires c κs = search needs
+
+store-requires : tie.Need-store-requires
+store-requires c κs =
+    let w = c .before .before .before .before in
+    omega (arith, w .crypt-all .kept, seal-room (checked (w .before .before .before .before .before)) (w .before .before .before .enum-told .given .1))
+
+add-t22 : tie.Need-add-t22
+add-t22 c = omega (arith, c .before .before .before .before .before .before .before .before .before .before .before .before .before .before .before .before .before .before .good)
+
+returns : tie.Need-returns
+returns c =
+    let j = c .before .before .before in
+    let a = j .before .before .before .before .before .before .args in
+    called (a .key .now) (a .nonce .now) (a .ad .now) (a .message .now) (a .out .now)
+    (seal-failed (checked j) (c .before .r .given .1))
+
+same-length : tie.Need-same-length
+same-length c = search needs
+
+returns-2 : tie.Need-returns-2
+returns-2 c =
+    let w = c .before .before .before .before .before .before .before in
+    let b = w .before .before in
+    let j = b .before .before .before in
+    let a = j .before .before .before .before .before .before .args in
+    called (a .key .now) (a .nonce .now) (a .ad .now) (a .message .now) (a .out .now)
+    (seal-passed (checked j) (b .before .enum-told .given .1) (b .begin .result) (w .crypt-all .result) (c .before .before .before .finish .result)
+    (b .begin .ensures) (w .crypt-all .ensures) (c .before .before .before .finish .ensures) (c .before .before .store .ensures))
+
+pub seal-spec : {M : Type 1} → statement M
+seal-spec =
+    tie.close
+    (tie.spec
+    add-no-room
+    judge-requires
+    enum-known-r
+    enum-told
+    begin-requires
+    crypt-all-requires
+    finish-requires
+    store-requires
+    add-t22
+    returns
+    same-length
+    returns-2)

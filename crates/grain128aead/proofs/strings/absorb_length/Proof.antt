@@ -1,0 +1,55 @@
+-- `grain128aead::strings::absorb_length` meets its contract.
+-- Assumes nothing.
+use mathlib.Core.Path.{_∙_}
+use Prim.Native.Nat.{_/_, _%_}
+use borrow.Author.Needs.{needs}
+use Rattle.grain128aead.specs.Engine.{stateOf}
+use Rattle.grain128aead.proofs.AuthenticatedString.{coded-short, coded-long}
+use Rattle.grain128aead.proofs.OverBytes.{run-one, run-three}
+use Rattle.grain128aead.proofs.strings.absorb_length.Statement.{statement}
+use Rattle.grain128aead.proofs.strings.absorb_length.Tie as tie
+
+cast-absorb-byte : tie.Need-cast-absorb-byte
+cast-absorb-byte c = search needs
+
+absorb-byte-requires : tie.Need-absorb-byte-requires
+absorb-byte-requires c κs = search needs
+
+returns : tie.Need-returns
+returns c = rw (coded-short (c .before .before .args .n) (c .before .if1 .taken)) (c .absorb-byte .ensures ∙ run-one (stateOf (c .before .before .args .e)) (c .before .before .args .n))
+
+absorb-byte-requires-2 : tie.Need-absorb-byte-requires-2
+absorb-byte-requires-2 c κs = search needs
+
+cast-absorb-byte-2 : tie.Need-cast-absorb-byte-2
+cast-absorb-byte-2 c = search needs
+
+absorb-byte-requires-3 : tie.Need-absorb-byte-requires-3
+absorb-byte-requires-3 c κs = search needs
+
+cast-absorb-byte-3 : tie.Need-cast-absorb-byte-3
+cast-absorb-byte-3 c = search needs
+
+absorb-byte-requires-4 : tie.Need-absorb-byte-requires-4
+absorb-byte-requires-4 c κs = search needs
+
+returns-2 : tie.Need-returns-2
+returns-2 c =
+    let s = c .before .before .before .before in
+    let n = s .args .n in
+    rw (coded-long n (c .before .before .before .if1 .left))
+    (run-three (stateOf (s .args .e)) 0x82 (n / 256) (n % 256) (c .before .before .absorb-byte2 .ensures) (c .before .absorb-byte3 .ensures) (c .absorb-byte4 .ensures))
+
+pub absorb-length-spec : {M : Type 1} → statement M
+absorb-length-spec =
+    tie.close
+    (tie.spec
+    cast-absorb-byte
+    absorb-byte-requires
+    returns
+    absorb-byte-requires-2
+    cast-absorb-byte-2
+    absorb-byte-requires-3
+    cast-absorb-byte-3
+    absorb-byte-requires-4
+    returns-2)
