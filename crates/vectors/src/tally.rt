@@ -1,0 +1,35 @@
+// Counts what came out as expected and what did not, with a line for each.
+use libc::STDOUT_FILENO;
+
+pub struct Tally {
+    pub good: u32,
+    pub bad: u32,
+}
+
+pub fn line(t: Tally, name: &[u8], ok: bool) -> Tally {
+    if ok {
+        io::write_all(STDOUT_FILENO, b"as expected  ");
+    } else {
+        io::write_all(STDOUT_FILENO, b"NOT          ");
+    }
+    io::write_all(STDOUT_FILENO, name);
+    io::write_all(STDOUT_FILENO, b"\n");
+    if ok {
+        Tally {
+            good: std::num::wrapping_add_u32(t.good, 1),
+            bad: t.bad,
+        }
+    } else {
+        Tally {
+            good: t.good,
+            bad: std::num::wrapping_add_u32(t.bad, 1),
+        }
+    }
+}
+
+pub fn close(t: Tally) {
+    io::print_decimal(STDOUT_FILENO, t.good as u64);
+    io::write_all(STDOUT_FILENO, b" as expected, ");
+    io::print_decimal(STDOUT_FILENO, t.bad as u64);
+    io::write_all(STDOUT_FILENO, b" not\n");
+}
