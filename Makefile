@@ -1,18 +1,24 @@
-# make            prove every crate and leave the libraries in build/
-# make test       the whole gate: layout, proofs, must-fail edits, programs
-.PHONY: all test toolchain clean
+# make            prove every crate, build the archive and the tool into build/, then seal and open a line
+# make test       the whole gate: layout, tests from outside, proofs from nothing, must-fail edits, programs
+# make bench      the archive beside the independent implementation
+# make install    header, archive, pkg-config file and tool, below PREFIX
+# make clean      remove what was built
+.DEFAULT_GOAL := all
+.PHONY: all test clean
+.NOTPARALLEL:
 
-all: toolchain
+include outside.mk
+
+all: have-rt have-cc have-rustc
 	rt check
 	mkdir -p build
-	cp target/rlib/*.rlib build/
+	cp target/bin/vectors build/
+	@$(MAKE) --no-print-directory outside-build demo
 
-test: toolchain
+test: have-rt
 	rt fmt --check
+	@$(MAKE) --no-print-directory outside-test
 	rt ci
-
-toolchain:
-	@command -v rt >/dev/null || { echo "missing: rt, the command of the Rattle toolchain (rattle-kit-5), on PATH" >&2; exit 1; }
 
 clean:
 	rm -rf build target

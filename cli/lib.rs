@@ -1,0 +1,5 @@
+//! What the tool, the tests and the benchmark share.
+
+pub mod archive;
+pub mod hex;
+pub mod vectors;

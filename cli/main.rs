@@ -1,0 +1,64 @@
+//! The lab's command-line tool over the archive.
+
+mod crypt;
+mod failure;
+mod inputs;
+mod options;
+mod refusal;
+mod selftest;
+mod streams;
+
+use failure::Failure;
+use options::Options;
+use std::ffi::OsString;
+use std::process::ExitCode;
+use tikhoplav::archive::Call;
+
+const HELP: &str = include_str!("help.txt");
+const VERSION: &str = concat!("tikhoplav ", env!("TIKHOPLAV_VERSION"), "\n");
+
+fn main() -> ExitCode {
+    let arguments: Vec<OsString> = std::env::args_os().skip(1).collect();
+    match run(&arguments) {
+        Ok(()) => ExitCode::SUCCESS,
+        Err(failure) => {
+            eprintln!("{failure}");
+            ExitCode::from(failure.status())
+        }
+    }
+}
+
+fn run(arguments: &[OsString]) -> Result<(), Failure> {
+    let Some((command, rest)) = arguments.split_first() else {
+        return Err(Failure::Usage("no command".to_string()));
+    };
+    match command.to_str() {
+        Some("seal") => crypt(Call::Seal, rest),
+        Some("open") => crypt(Call::Open, rest),
+        Some("selftest") => alone(rest).and_then(|()| selftest::run()),
+        Some("--help" | "-h" | "help") => streams::write_stdout(HELP.as_bytes()),
+        Some("--version" | "-V") => streams::write_stdout(VERSION.as_bytes()),
+        _ => Err(Failure::Usage(format!(
+            "unknown command '{}'",
+            command.display()
+        ))),
+    }
+}
+
+fn crypt(call: Call, arguments: &[OsString]) -> Result<(), Failure> {
+    let options = Options::parse(arguments)?;
+    if options.has("--help") {
+        return streams::write_stdout(HELP.as_bytes());
+    }
+    crypt::run(call, &options)
+}
+
+fn alone(rest: &[OsString]) -> Result<(), Failure> {
+    match rest.first() {
+        None => Ok(()),
+        Some(extra) => Err(Failure::Usage(format!(
+            "unexpected argument '{}'",
+            extra.display()
+        ))),
+    }
+}

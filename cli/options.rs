@@ -1,0 +1,97 @@
+//! The options of `seal` and `open`.
+
+use crate::failure::Failure;
+use std::collections::{BTreeMap, BTreeSet};
+use std::ffi::{OsStr, OsString};
+use std::os::unix::ffi::OsStrExt;
+
+const WITH_VALUE: [&str; 8] = [
+    "--key",
+    "--key-file",
+    "--nonce",
+    "--nonce-file",
+    "--ad",
+    "--ad-file",
+    "--in",
+    "--out",
+];
+
+const ALONE: [&str; 3] = ["--hex-in", "--hex-out", "--help"];
+
+#[derive(Default)]
+pub struct Options {
+    values: BTreeMap<&'static str, OsString>,
+    switches: BTreeSet<&'static str>,
+}
+
+impl Options {
+    /// Reads `--name value`, `--name=value` and `--name`, each at most once.
+    pub fn parse(arguments: &[OsString]) -> Result<Options, Failure> {
+        let mut options = Options::default();
+        let mut rest = arguments.iter();
+        while let Some(argument) = rest.next() {
+            let (name, attached) = split(argument);
+            let fresh = if let Some(known) = find(&ALONE, name) {
+                if attached.is_some() {
+                    return usage(format!("{known} takes no value"));
+                }
+                options.switches.insert(known)
+            } else if let Some(known) = find(&WITH_VALUE, name) {
+                let value = attached.or_else(|| rest.next().map(OsString::as_os_str));
+                let value = present(known, value, attached.is_some())?;
+                options.values.insert(known, value.to_owned()).is_none()
+            } else {
+                return usage(unknown(name));
+            };
+            if !fresh {
+                return usage(format!("{} is given twice", name.display()));
+            }
+        }
+        Ok(options)
+    }
+
+    pub fn has(&self, switch: &str) -> bool {
+        self.switches.contains(switch)
+    }
+
+    pub fn value(&self, name: &str) -> Option<&OsStr> {
+        self.values.get(name).map(OsString::as_os_str)
+    }
+}
+
+/// A name and the value that stands behind its `=`.
+fn split(argument: &OsStr) -> (&OsStr, Option<&OsStr>) {
+    let bytes = argument.as_bytes();
+    match bytes.iter().position(|&byte| byte == b'=') {
+        Some(at) if bytes.starts_with(b"--") => (
+            OsStr::from_bytes(&bytes[..at]),
+            Some(OsStr::from_bytes(&bytes[at + 1..])),
+        ),
+        _ => (argument, None),
+    }
+}
+
+fn find(names: &[&'static str], name: &OsStr) -> Option<&'static str> {
+    names.iter().copied().find(|&known| name == known)
+}
+
+/// The value of an option. One that looks like an option must be attached with `=`.
+fn present<'a>(name: &str, value: Option<&'a OsStr>, attached: bool) -> Result<&'a OsStr, Failure> {
+    match value {
+        Some(value) if attached || !value.as_bytes().starts_with(b"--") => Ok(value),
+        _ => usage(format!("{name} has no value")),
+    }
+}
+
+fn unknown(name: &OsStr) -> String {
+    let kind = if name.as_bytes().starts_with(b"-") {
+        "unknown option"
+    } else {
+        "unexpected argument"
+    };
+    format!("{kind} '{}'", name.display())
+}
+
+fn usage<T>(what: String) -> Result<T, Failure> {
+    Err(Failure::Usage(what))
+}

@@ -1,0 +1,39 @@
+//! A refusal in words.
+
+use crate::inputs::Inputs;
+use tikhoplav::archive::{Call, AD_MAX, KEY_SIZE, MESSAGE_MAX, NONCE_SIZE, SEALED_MAX, TAG_SIZE};
+
+const WRONG_TAG: &str = "the tag is wrong: the key, the nonce, the associated data or the sealed \
+    input is not as it was sealed";
+
+/// What is wrong with the inputs, where the archive refused them with this number.
+pub fn sentence(call: Call, inputs: &Inputs, number: u8) -> String {
+    let (data, limit) = match call {
+        Call::Seal => ("message", MESSAGE_MAX),
+        Call::Open => ("sealed input", SEALED_MAX),
+    };
+    let is = |what: &str, bytes: &[u8]| format!("the {what} is {}", count(bytes.len()));
+    match number {
+        1 => format!("{}, and must be {KEY_SIZE}", is("key", &inputs.key)),
+        2 => format!("{}, and must be {NONCE_SIZE}", is("nonce", &inputs.nonce)),
+        3 => format!(
+            "{}, and may be at most {AD_MAX}",
+            is("associated data", &inputs.ad)
+        ),
+        4 => format!("{}, and may be at most {limit}", is(data, &inputs.data)),
+        5 => format!(
+            "{}, and its tag alone is {TAG_SIZE}",
+            is(data, &inputs.data)
+        ),
+        6 => "the output is too short".to_string(),
+        7 => WRONG_TAG.to_string(),
+        _ => unreachable!("the header names no refusal {number}"),
+    }
+}
+
+fn count(bytes: usize) -> String {
+    match bytes {
+        1 => "1 byte".to_string(),
+        _ => format!("{bytes} bytes"),
+    }
+}

@@ -1,0 +1,117 @@
+//! Inputs with stored answers.
+
+use crate::archive::{KEY_SIZE, NONCE_SIZE};
+
+/// A vector of the designers' paper, appendix A. Its string is as printed: without a coded AD length,
+/// and with zeros after the final 1, which add nothing to the tag.
+pub struct Published {
+    pub key: [u8; KEY_SIZE],
+    pub nonce: [u8; NONCE_SIZE],
+    pub keystream: u128,
+    pub string: &'static [u8],
+    pub tag: u64,
+    pub summands: [Summand; 3],
+}
+
+/// A string that sealing authenticates: the AD begins with `ad`, and all the rest of AD and message
+/// is zeros.
+///
+/// Sealing always begins with a coded AD length, so no call authenticates a published string. But
+/// under one key and nonce the tag of the sum of three strings is the sum of their tags, and three
+/// strings that sealing authenticates sum to the published one. For the first vector, as bytes and
+/// the final 1:
+///
+/// ```text
+/// 82 00 80 00 .. 00  1
+/// 02 80 80 00 .. 00  1
+/// 00  1
+/// ```
+pub struct Summand {
+    pub ad: &'static [u8],
+    pub ad_len: usize,
+    pub message_len: usize,
+}
+
+impl Summand {
+    pub fn ad(&self) -> Vec<u8> {
+        let mut ad = self.ad.to_vec();
+        ad.resize(self.ad_len, 0);
+        ad
+    }
+
+    pub fn message(&self) -> Vec<u8> {
+        vec![0; self.message_len]
+    }
+}
+
+const fn summand(ad: &'static [u8], ad_len: usize, message_len: usize) -> Summand {
+    Summand {
+        ad,
+        ad_len,
+        message_len,
+    }
+}
+
+/// The first tag is printed with a digit too many, `aaab555c073e67664`.
+pub const PUBLISHED: [Published; 2] = [
+    Published {
+        key: [0; KEY_SIZE],
+        nonce: [0; NONCE_SIZE],
+        keystream: 0xc800a52f948b89b85cee6cfd8571f90f,
+        string: &[0x80],
+        tag: 0xaab555c073e67664,
+        summands: [
+            summand(&[], 128, 0),
+            summand(&[0x80, 0x80], 2, 128),
+            summand(&[], 0, 0),
+        ],
+    },
+    Published {
+        key: 0x0123456789abcdef123456789abcdef0_u128.to_be_bytes(),
+        nonce: [
+            0x01, 0x23, 0x45, 0x67, 0x89, 0xab, 0xcd, 0xef, 0x12, 0x34, 0x56, 0x78,
+        ],
+        keystream: 0xc2b918c6baf6dea0865200d46858a37b,
+        string: &[0xff, 0x80],
+        tag: 0x782f4c4a8907ba7f,
+        summands: [
+            summand(&[], 128, 0),
+            summand(&[0x00, 0x80], 125, 5),
+            summand(&[], 0, 0),
+        ],
+    },
+];
+
+/// A sealed payload of counting bytes: key, nonce, AD and message are each 00 01 02 and so on. The
+/// answers are those of `tests/model.rs`.
+pub struct Sealed {
+    pub ad_len: usize,
+    pub message_len: usize,
+    /// The payload in hex: all of it, or the last 16 bytes of a long one.
+    pub end: &'static str,
+}
+
+const fn sealed(ad_len: usize, message_len: usize, end: &'static str) -> Sealed {
+    Sealed {
+        ad_len,
+        message_len,
+        end,
+    }
+}
+
+pub const SEALED: [Sealed; 9] = [
+    sealed(0, 0, "97ce60c2f47910e8"),
+    sealed(0, 1, "f0675373bd7136adec"),
+    sealed(1, 0, "06caa4e3901529b6"),
+    sealed(8, 16, "47fd828e70ea670e6ebe4f5a8e9c9437a7da12cc950440d2"),
+    sealed(127, 3, "a28985ecba39968627ff89"),
+    sealed(128, 3, "96262f5585347811a8dfd5"),
+    sealed(255, 5, "d652de1645665fec242f8d7a9a"),
+    sealed(256, 5, "53dd1742b35db39776db2d3b69"),
+    sealed(4096, 32768, "0b1f0abffc41bf1ddedab85dac5d3be1"),
+];
+
+/// The bytes 00 01 02 .., beginning again after ff.
+pub fn counting(count: usize) -> Vec<u8> {
+    (0..count).map(|i| i as u8).collect()
+}

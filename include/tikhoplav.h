@@ -1,0 +1,137 @@
+/*
+ * Tikhoplav: Grain-128AEAD, first edition. Sealing and opening of whole byte strings.
+ *
+ * Sealing enciphers a message under a key and a nonce, and appends a tag over the message and its associated data
+ * (AD). Opening recomputes the tag, and hands out the message only if the tag is right. The AD is authenticated and
+ * not enciphered; it is no part of the sealed payload, and the opener must have it from elsewhere.
+ *
+ *     sealed payload = ciphertext (as long as the message), then the tag (8 bytes)
+ *
+ * What the archive needs
+ *
+ *   Link with -ltikhoplav. The code is for x86-64 and the System V calling convention (it uses the red zone and SSE2).
+ *   It needs no C library, allocates nothing, and takes about 1 KiB of stack (measured, not proved). It has no global
+ *   state, so calls may run at the same time in any number of threads, as long as nobody writes to a buffer that a
+ *   running call reads, or touches one that it writes.
+ *
+ * What the caller owes
+ *
+ *   - Each pointer leads to as many bytes as the length after it says: readable, and for `out` writable.
+ *   - `out` overlaps none of the four inputs. (The inputs are only read, and may overlap one another.)
+ *   - A nonce is never used for two sealings under one key. If it is, secrecy is lost, and no call can notice it.
+ *
+ *   A slice of length 0 may have any pointer, NULL included: nothing is read or written through it. So an empty AD is
+ *   NULL, 0; an empty message is NULL, 0; and the output of opening an empty message may be NULL, 0.
+ *
+ * What a call answers
+ *
+ *   Success is the count of bytes written, 0 or more. They stand at the front of `out`; every byte of `out` behind
+ *   them is untouched. A refusal is one of the negative numbers below, and then every byte of `out` is as it was before
+ *   the call. In particular a wrong tag hands out no bit of the message: nothing is written until the tag is known to
+ *   be right.
+ *
+ * What is not promised
+ *
+ *   How long a call takes. It grows with the lengths, and opening goes over the ciphertext twice. Nor does a call wipe
+ *   the stack that it has used.
+ *
+ * Example: a whole program (a real key is random and secret)
+ *
+ *     #include <stdio.h>
+ *     #include <tikhoplav.h>
+ *
+ *     int main(void)
+ *     {
+ *         static const uint8_t key[TIKHOPLAV_KEY_SIZE] = "no real key", nonce[TIKHOPLAV_NONCE_SIZE] = "never twice";
+ *         static const uint8_t ad[] = { 0x07, 0xe8 }, message[] = "2400 rpm";
+ *         uint8_t sealed[sizeof message + TIKHOPLAV_TAG_SIZE], opened[sizeof message];
+ *         int64_t n = tikhoplav_seal(key, sizeof key, nonce, sizeof nonce, ad, sizeof ad,
+ *                                    message, sizeof message, sealed, sizeof sealed);
+ *         if (n >= 0)
+ *             n = tikhoplav_open(key, sizeof key, nonce, sizeof nonce, ad, sizeof ad,
+ *                                sealed, (size_t)n, opened, sizeof opened);
+ *         return n < 0 ? (int)-n : puts((const char *)opened) == EOF;
+ *     }
+ */
+#ifndef TIKHOPLAV_H
+#define TIKHOPLAV_H
+
+#include <stddef.h>
+#include <stdint.h>
+
+#ifdef __cplusplus
+extern "C" {
+#endif
+
+#define TIKHOPLAV_VERSION "1.0.0"
+
+/* Sizes in bytes. A key and a nonce have exactly these; a sealed payload ends with exactly such a tag. */
+#define TIKHOPLAV_KEY_SIZE 16
+#define TIKHOPLAV_NONCE_SIZE 12
+#define TIKHOPLAV_TAG_SIZE 8
+
+/* The longest associated data, message and sealed payload, in bytes. Each may also be shorter: AD and message down to
+   0 bytes, a sealed payload down to its tag. */
+#define TIKHOPLAV_AD_MAX 4096
+#define TIKHOPLAV_MESSAGE_MAX 32768
+#define TIKHOPLAV_SEALED_MAX (TIKHOPLAV_MESSAGE_MAX + TIKHOPLAV_TAG_SIZE)
+
+/*
+ * Refusals. The checks run in this order, and the first that applies is the answer: a call with a short key and a long
+ * nonce answers -1, and an output that is too short answers -6 even where the tag is wrong too.
+ */
+
+/* key_len is not TIKHOPLAV_KEY_SIZE. */
+#define TIKHOPLAV_REFUSED_KEY_SIZE (-1)
+
+/* nonce_len is not TIKHOPLAV_NONCE_SIZE. */
+#define TIKHOPLAV_REFUSED_NONCE_SIZE (-2)
+
+/* ad_len is over TIKHOPLAV_AD_MAX. */
+#define TIKHOPLAV_REFUSED_AD_TOO_LONG (-3)
+
+/* Sealing: message_len is over TIKHOPLAV_MESSAGE_MAX. Opening: sealed_len is over TIKHOPLAV_SEALED_MAX. */
+#define TIKHOPLAV_REFUSED_MESSAGE_TOO_LONG (-4)
+
+/* Opening only: sealed_len is under TIKHOPLAV_TAG_SIZE. */
+#define TIKHOPLAV_REFUSED_SEALED_TOO_SHORT (-5)
+
+/* Sealing: out_len is under message_len + TIKHOPLAV_TAG_SIZE. Opening: out_len is under sealed_len -
+   TIKHOPLAV_TAG_SIZE. */
+#define TIKHOPLAV_REFUSED_OUTPUT_TOO_SHORT (-6)
+
+/* Opening only: the tag is not the one that key, nonce, AD and ciphertext give. Any of the four, or the tag, differs
+   from what was sealed; which one cannot be told. */
+#define TIKHOPLAV_REFUSED_TAG_DIFFERS (-7)
+
+/*
+ * Seals message[0 .. message_len - 1].
+ *
+ * Writes the ciphertext to out[0 .. message_len - 1], the tag to the TIKHOPLAV_TAG_SIZE bytes after it, and answers
+ * message_len + TIKHOPLAV_TAG_SIZE. Whenever the sizes are legal and out_len is at least that, it succeeds.
+ *
+ * Otherwise it answers the first of these that applies, and writes nothing:
+ * KEY_SIZE, NONCE_SIZE, AD_TOO_LONG, MESSAGE_TOO_LONG, OUTPUT_TOO_SHORT.
+ */
+int64_t tikhoplav_seal(const uint8_t *key, size_t key_len, const uint8_t *nonce, size_t nonce_len,
+                       const uint8_t *ad, size_t ad_len, const uint8_t *message, size_t message_len,
+                       uint8_t *out, size_t out_len);
+
+/*
+ * Opens sealed[0 .. sealed_len - 1]: a ciphertext, whose last TIKHOPLAV_TAG_SIZE bytes are its tag.
+ *
+ * If the tag is right, writes the message to out[0 .. sealed_len - TIKHOPLAV_TAG_SIZE - 1] and answers sealed_len -
+ * TIKHOPLAV_TAG_SIZE, which is 0 for an empty message.
+ *
+ * Otherwise it answers the first of these that applies, and writes nothing:
+ * KEY_SIZE, NONCE_SIZE, AD_TOO_LONG, MESSAGE_TOO_LONG, SEALED_TOO_SHORT, OUTPUT_TOO_SHORT, TAG_DIFFERS.
+ */
+int64_t tikhoplav_open(const uint8_t *key, size_t key_len, const uint8_t *nonce, size_t nonce_len,
+                       const uint8_t *ad, size_t ad_len, const uint8_t *sealed, size_t sealed_len,
+                       uint8_t *out, size_t out_len);
+
+#ifdef __cplusplus
+}
+#endif
+
+#endif

@@ -1,0 +1,77 @@
+//! The archive beside the independent implementation, on seeded random inputs.
+
+mod damage;
+mod flips;
+mod judge;
+mod order;
+mod outputs;
+mod random;
+mod sizes;
+mod trial;
+mod vectors;
+
+use judge::{Judge, Verdict};
+use random::Random;
+use std::process::ExitCode;
+
+const SEED: u64 = 128;
+
+type Group = fn(&mut Judge) -> Verdict;
+
+const GROUPS: [(&str, Group); 15] = [
+    ("published vectors, on the model", vectors::published),
+    (
+        "stored answers of the selftest, on the model",
+        vectors::stored,
+    ),
+    ("small sizes", sizes::small),
+    ("sizes at the limits", sizes::limits),
+    ("sealed inputs short and long", sizes::sealed_inputs),
+    ("sizes of keys and nonces", sizes::keys_and_nonces),
+    ("random sizes", sizes::random),
+    ("outputs short, exact and longer", outputs::run),
+    ("damage to every bit", damage::every_bit),
+    ("damage at random", damage::random),
+    ("damage to lengths", damage::lengths),
+    ("order of refusals", order::run),
+    ("flips at every position", flips::every_position),
+    ("flips at random", flips::random),
+    ("flips in the largest payload", flips::largest),
+];
+
+fn main() -> ExitCode {
+    let seed = match std::env::args().nth(1).map(|text| text.parse()) {
+        None => SEED,
+        Some(Ok(seed)) => seed,
+        Some(Err(error)) => {
+            eprintln!("usage: harness [SEED]: {error}");
+            return ExitCode::from(64);
+        }
+    };
+    println!("seed {seed}");
+    match run(seed) {
+        Ok(total) => {
+            println!("{total:>8}  comparisons, all equal");
+            ExitCode::SUCCESS
+        }
+        Err(mismatch) => {
+            eprintln!("{mismatch}");
+            ExitCode::FAILURE
+        }
+    }
+}
+
+/// Runs every group, each from the seed, and counts the comparisons.
+fn run(seed: u64) -> Result<usize, String> {
+    let mut total = 0;
+    for (name, group) in GROUPS {
+        let mut judge = Judge {
+            random: Random::seeded(seed),
+            comparisons: 0,
+        };
+        group(&mut judge).map_err(|mismatch| format!("MISMATCH in {name}: {mismatch}"))?;
+        println!("{:>8}  {name}", judge.comparisons);
+        total += judge.comparisons;
+    }
+    Ok(total)
+}

@@ -1,0 +1,87 @@
+//! One input, and what a call makes of it.
+
+use tikhoplav::archive::Call;
+use tikhoplav::hex;
+
+#[derive(Clone)]
+pub struct Trial {
+    pub call: Call,
+    pub key: Vec<u8>,
+    pub nonce: Vec<u8>,
+    pub ad: Vec<u8>,
+    /// The message, or the sealed input.
+    pub data: Vec<u8>,
+    /// The output as it is lent to the call.
+    pub lent: Vec<u8>,
+}
+
+/// The answer, and the output afterwards.
+#[derive(Clone, PartialEq, Eq)]
+pub struct Outcome {
+    pub answer: i64,
+    pub out: Vec<u8>,
+}
+
+impl Trial {
+    pub fn by_archive(&self) -> Outcome {
+        let mut out = self.lent.clone();
+        let answer = self
+            .call
+            .run(&self.key, &self.nonce, &self.ad, &self.data, &mut out);
+        Outcome { answer, out }
+    }
+
+    pub fn by_model(&self) -> Outcome {
+        let run = match self.call {
+            Call::Seal => model::seal,
+            Call::Open => model::open,
+        };
+        match run(
+            &self.key,
+            &self.nonce,
+            &self.ad,
+            &self.data,
+            self.lent.len(),
+        ) {
+            Ok(written) => self.success(&written),
+            Err(number) => self.refusal(number),
+        }
+    }
+
+    /// The count, the bytes at the front, and behind them the output as lent.
+    pub fn success(&self, written: &[u8]) -> Outcome {
+        let mut out = self.lent.clone();
+        out[..written.len()].copy_from_slice(written);
+        Outcome {
+            answer: written.len() as i64,
+            out,
+        }
+    }
+
+    /// Minus the number, and the output as lent.
+    pub fn refusal(&self, number: u8) -> Outcome {
+        Outcome {
+            answer: -i64::from(number),
+            out: self.lent.clone(),
+        }
+    }
+
+    /// The input in hex, for a report.
+    pub fn shown(&self) -> String {
+        format!(
+            "{:?}\n  key      {}\n  nonce    {}\n  ad       {}\n  data     {}\n  lent     {}\n",
+            self.call,
+            hex::encode(&self.key),
+            hex::encode(&self.nonce),
+            hex::encode(&self.ad),
+            hex::encode(&self.data),
+            hex::encode(&self.lent),
+        )
+    }
+}
+
+impl Outcome {
+    pub fn shown(&self) -> String {
+        format!("{}, output {}", self.answer, hex::encode(&self.out))
+    }
+}

@@ -1,0 +1,73 @@
+//! The model against the published vectors, and the selftest's stored answers against the model.
+
+use crate::judge::{Judge, Verdict};
+use model::Machine;
+use tikhoplav::archive::{KEY_SIZE, NONCE_SIZE, TAG_SIZE};
+use tikhoplav::hex;
+use tikhoplav::vectors::{counting, Published, PUBLISHED, SEALED};
+
+pub fn published(judge: &mut Judge) -> Verdict {
+    for vector in &PUBLISHED {
+        judge.holds(
+            "the model's keystream is as published",
+            keystream(vector) == vector.keystream,
+        )?;
+        judge.holds("the model's tag is as published", tag(vector) == vector.tag)?;
+        judge.holds(
+            "the summands' strings sum to the published one",
+            sum(vector) == vector.string,
+        )?;
+    }
+    Ok(())
+}
+
+fn keystream(vector: &Published) -> u128 {
+    let mut machine = Machine::start(&vector.key, &vector.nonce);
+    (0..128).fold(0, |n, _| {
+        let bit = machine.preoutput();
+        machine.absorb(0);
+        (n << 1) | u128::from(bit)
+    })
+}
+
+fn tag(vector: &Published) -> u64 {
+    let mut machine = Machine::start(&vector.key, &vector.nonce);
+    machine.absorb_bytes(vector.string);
+    machine.accumulator()
+}
+
+/// The sum of the summands' strings, without the zero bytes at its end.
+fn sum(vector: &Published) -> Vec<u8> {
+    let mut sum = Vec::new();
+    for summand in &vector.summands {
+        let (ad, message) = (summand.ad(), summand.message());
+        let string = [model::coded_length(ad.len()), ad, message, vec![0x80]].concat();
+        sum.resize(sum.len().max(string.len()), 0);
+        sum.iter_mut().zip(string).for_each(|(s, byte)| *s ^= byte);
+    }
+    while sum.last() == Some(&0) {
+        sum.pop();
+    }
+    sum
+}
+
+pub fn stored(judge: &mut Judge) -> Verdict {
+    for vector in &SEALED {
+        let payload = model::seal(
+            &counting(KEY_SIZE),
+            &counting(NONCE_SIZE),
+            &counting(vector.ad_len),
+            &counting(vector.message_len),
+            vector.message_len + TAG_SIZE,
+        );
+        let ends = payload.is_ok_and(|payload| hex::encode(&payload).ends_with(vector.end));
+        judge.holds(
+            &format!(
+                "the model's payload of AD {} and message {} ends with {}",
+                vector.ad_len, vector.message_len, vector.end
+            ),
+            ends,
+        )?;
+    }
+    Ok(())
+}

@@ -1,0 +1,27 @@
+#!/usr/bin/env bash
+# What `make install` has put below a prefix is enough to build and run the header's example.
+# Usage: tests/installed.sh PREFIX VERSION CC
+set -eu
+prefix=$1 version=$2 cc=$3
+scratch=$(mktemp -d)
+trap 'rm -rf "$scratch"' EXIT
+
+fail() {
+  echo "tests/installed.sh: $*" >&2
+  exit 1
+}
+
+flags=(-I"$prefix/include" -L"$prefix/lib" -ltikhoplav)
+if command -v pkg-config >/dev/null; then
+  export PKG_CONFIG_PATH=$prefix/lib/pkgconfig
+  found=$(pkg-config --modversion tikhoplav)
+  [ "$found" = "$version" ] || fail "tikhoplav.pc has version $found, not $version"
+  read -ra flags <<<"$(pkg-config --cflags --libs tikhoplav)"
+fi
+
+sed -n '/^ \* Example/,/^ \*\//s/^ \*     //p' "$prefix/include/tikhoplav.h" >"$scratch/example.c"
+"$cc" -std=c99 -Wall -Wextra -Wpedantic -Werror "$scratch/example.c" "${flags[@]}" -o "$scratch/example"
+shown=$("$scratch/example")
+[ "$shown" = "2400 rpm" ] || fail "the header's example prints '$shown', not '2400 rpm'"
+"$prefix/bin/tikhoplav" selftest >"$scratch/selftest" || fail "the installed tool fails its selftest"
+echo "the header's example builds and runs, and the tool passes its selftest"

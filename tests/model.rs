@@ -1,0 +1,215 @@
+//! An independent implementation of document 01: a byte for each register bit, and every bit moved
+//! at every clock.
+
+type Places = [u8; 128];
+
+/// L.
+fn linear(s: &Places) -> u8 {
+    s[0] ^ s[7] ^ s[38] ^ s[70] ^ s[81] ^ s[96]
+}
+
+/// F.
+fn nonlinear(b: &Places) -> u8 {
+    let singles = b[0] ^ b[26] ^ b[56] ^ b[91] ^ b[96];
+    let pairs = (b[3] & b[67])
+        ^ (b[11] & b[13])
+        ^ (b[17] & b[18])
+        ^ (b[27] & b[59])
+        ^ (b[40] & b[48])
+        ^ (b[61] & b[65])
+        ^ (b[68] & b[84]);
+    let triples = (b[22] & b[24] & b[25]) ^ (b[70] & b[78] & b[82]);
+    singles ^ pairs ^ triples ^ (b[88] & b[92] & b[93] & b[95])
+}
+
+/// h.
+fn filter(s: &Places, b: &Places) -> u8 {
+    (b[12] & s[8]) ^ (s[13] & s[20]) ^ (b[95] & s[42]) ^ (s[60] & s[79]) ^ (b[12] & b[95] & s[94])
+}
+
+/// y.
+fn preoutput(s: &Places, b: &Places) -> u8 {
+    filter(s, b) ^ s[93] ^ b[2] ^ b[15] ^ b[36] ^ b[45] ^ b[64] ^ b[73] ^ b[89]
+}
+
+/// Moves every bit one place down; the last place takes the new bit.
+fn move_down(places: &mut [u8], new: u8) {
+    let last = places.len() - 1;
+    for place in 0..last {
+        places[place] = places[place + 1];
+    }
+    places[last] = new;
+}
+
+/// The bits of a byte string, the top bit of each byte first.
+fn bits(bytes: &[u8]) -> Vec<u8> {
+    let of_byte = |&byte: &u8| (0..8).map(move |place| (byte >> (7 - place)) & 1);
+    bytes.iter().flat_map(of_byte).collect()
+}
+
+fn bytes(bits: &[u8]) -> Vec<u8> {
+    let byte = |eight: &[u8]| eight.iter().fold(0, |byte, bit| (byte << 1) | bit);
+    bits.chunks(8).map(byte).collect()
+}
+
+pub struct Machine {
+    lfsr: Places,
+    nfsr: Places,
+    accumulator: [u8; 64],
+    register: [u8; 64],
+}
+
+impl Machine {
+    /// The machine after start-up: 16 bytes of key, 12 of nonce, 384 clocks.
+    pub fn start(key: &[u8], nonce: &[u8]) -> Machine {
+        let key = bits(key);
+        let mut machine = Machine {
+            lfsr: [1; 128],
+            nfsr: [0; 128],
+            accumulator: [0; 64],
+            register: [0; 64],
+        };
+        machine.nfsr.copy_from_slice(&key);
+        machine.lfsr[..96].copy_from_slice(&bits(nonce));
+        machine.lfsr[127] = 0;
+        for _ in 0..256 {
+            let y = machine.preoutput();
+            machine.clock(y, y);
+        }
+        for (j, &key_bit) in key.iter().enumerate() {
+            let y = machine.preoutput();
+            match j {
+                0..64 => machine.accumulator[j] = y,
+                _ => machine.register[j - 64] = y,
+            }
+            machine.clock(key_bit, 0);
+        }
+        machine
+    }
+
+    /// The pre-output of the clock to come. Before a bit of the string, that is its keystream bit.
+    pub fn preoutput(&self) -> u8 {
+        preoutput(&self.lfsr, &self.nfsr)
+    }
+
+    fn clock(&mut self, to_lfsr: u8, to_nfsr: u8) {
+        let new_s = linear(&self.lfsr) ^ to_lfsr;
+        let new_b = self.lfsr[0] ^ nonlinear(&self.nfsr) ^ to_nfsr;
+        move_down(&mut self.lfsr, new_s);
+        move_down(&mut self.nfsr, new_b);
+    }
+
+    /// Uses a bit of the string, in two clocks.
+    pub fn absorb(&mut self, bit: u8) {
+        self.clock(0, 0);
+        let new = self.preoutput();
+        self.clock(0, 0);
+        if bit == 1 {
+            for (sum, place) in self.accumulator.iter_mut().zip(&self.register) {
+                *sum ^= place;
+            }
+        }
+        move_down(&mut self.register, new);
+    }
+
+    pub fn absorb_bytes(&mut self, string: &[u8]) {
+        for bit in bits(string) {
+            self.absorb(bit);
+        }
+    }
+
+    /// The authenticator register, which is added to the accumulator if the next bit is 1.
+    pub fn register(&self) -> u64 {
+        number(&self.register)
+    }
+
+    pub fn accumulator(&self) -> u64 {
+        number(&self.accumulator)
+    }
+}
+
+/// Place 0 is the top bit.
+fn number(places: &[u8; 64]) -> u64 {
+    places.iter().fold(0, |n, &bit| (n << 1) | u64::from(bit))
+}
+
+pub fn coded_length(ad_len: usize) -> Vec<u8> {
+    match ad_len {
+        0..=127 => vec![ad_len as u8],
+        _ => vec![0x82, (ad_len / 256) as u8, (ad_len % 256) as u8],
+    }
+}
+
+/// The machine where the message begins.
+fn begin(key: &[u8], nonce: &[u8], ad: &[u8]) -> Machine {
+    let mut machine = Machine::start(key, nonce);
+    machine.absorb_bytes(&coded_length(ad.len()));
+    machine.absorb_bytes(ad);
+    machine
+}
+
+/// The tag: the accumulator after the final 1.
+fn finish(mut machine: Machine) -> Vec<u8> {
+    machine.absorb(1);
+    bytes(&machine.accumulator)
+}
+
+/// The number of the first row that applies.
+fn refuse(rows: &[(u8, bool)]) -> Result<(), u8> {
+    match rows.iter().find(|(_, applies)| *applies) {
+        Some((number, _)) => Err(*number),
+        None => Ok(()),
+    }
+}
+
+/// The sealed payload, or the number of the refusal, where the output has `room` bytes.
+pub fn seal(
+    key: &[u8],
+    nonce: &[u8],
+    ad: &[u8],
+    message: &[u8],
+    room: usize,
+) -> Result<Vec<u8>, u8> {
+    refuse(&[
+        (1, key.len() != 16),
+        (2, nonce.len() != 12),
+        (3, ad.len() > 4096),
+        (4, message.len() > 32768),
+        (6, room < message.len() + 8),
+    ])?;
+    let mut machine = begin(key, nonce, ad);
+    let mut ciphertext = bits(message);
+    for bit in &mut ciphertext {
+        let message_bit = *bit;
+        *bit ^= machine.preoutput();
+        machine.absorb(message_bit);
+    }
+    Ok([bytes(&ciphertext), finish(machine)].concat())
+}
+
+/// The message, or the number of the refusal, where the output has `room` bytes.
+pub fn open(
+    key: &[u8],
+    nonce: &[u8],
+    ad: &[u8],
+    sealed: &[u8],
+    room: usize,
+) -> Result<Vec<u8>, u8> {
+    refuse(&[
+        (1, key.len() != 16),
+        (2, nonce.len() != 12),
+        (3, ad.len() > 4096),
+        (4, sealed.len() > 32776),
+        (5, sealed.len() < 8),
+        (6, room + 8 < sealed.len()),
+    ])?;
+    let (ciphertext, tag) = sealed.split_at(sealed.len() - 8);
+    let mut machine = begin(key, nonce, ad);
+    let mut message = bits(ciphertext);
+    for bit in &mut message {
+        *bit ^= machine.preoutput();
+        machine.absorb(*bit);
+    }
+    refuse(&[(7, finish(machine) != tag)])?;
+    Ok(bytes(&message))
+}

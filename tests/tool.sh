@@ -1,0 +1,172 @@
+#!/usr/bin/env bash
+# Drives the command-line tool as a user would. Usage: tests/tool.sh TOOL VERSION
+set -u
+tool=$(realpath "$1")
+version=$2
+scratch=$(mktemp -d)
+trap 'rm -rf "$scratch"' EXIT
+cd "$scratch" || exit 1
+
+key=000102030405060708090a0b0c0d0e0f
+nonce=000102030405060708090a0b
+secrets=(--key "$key" --nonce "$nonce")
+checks=0
+
+check() { # WHAT COMMAND...: the command succeeds
+  checks=$((checks + 1))
+  local what=$1
+  shift
+  "$@" || { echo "tests/tool.sh: $what: does not hold: $*" >&2; exit 1; }
+}
+
+run() { # STATUS ARGUMENT...: the tool exits so; its input is ./input, its output ./output and ./errors
+  local status=0 expected=$1
+  shift
+  "$tool" "$@" <input >output 2>errors || status=$?
+  check "tikhoplav $*: $(cat errors)" [ "$status" = "$expected" ]
+}
+
+refuses() { # NUMBER SENTENCE ARGUMENT...: nothing is written to any output
+  local number=$1 sentence=$2
+  shift 2
+  run "$number" "$@"
+  check "$*" [ "$(cat errors)" = "refusal $number: $sentence" ]
+  check "$*" [ ! -s output ]
+  run "$number" "$@" --out absent
+  check "$*" [ ! -e absent ]
+  echo kept >present
+  run "$number" "$@" --out present
+  check "$*" [ "$(cat present)" = kept ]
+}
+
+misused() { # WHAT ARGUMENT...: wrong usage, told apart from a refusal
+  local what=$1
+  shift
+  run 64 "$@"
+  check "$*" [ "$(cat errors)" = "tikhoplav: $what (see tikhoplav --help)" ]
+  check "$*" [ ! -s output ]
+}
+
+fails_to() { # WHAT ARGUMENT...: input or output fails
+  local what=$1
+  shift
+  run 74 "$@"
+  check "$*: $(cat errors)" grep -q "^tikhoplav: cannot $what" errors
+}
+
+bytes() { head -c "$1" /dev/zero; }
+
+round_trips() {
+  printf '\x00\x01\x02\x03\x04\x05\x06\x07\x08\x09\x0a\x0b\x0c\x0d\x0e\x0f' >key
+  head -c 12 key >nonce
+  bytes 4096 | tr '\0' 'a' >ad
+  for size in 0 1 8 1000 32768; do
+    yes "engine 2400 rpm" | head -c "$size" >input
+    run 0 seal --key-file key --nonce-file nonce --ad-file ad --in input --out sealed
+    check "size of the payload" [ "$(wc -c <sealed)" = $((size + 8)) ]
+    run 0 open --key-file key --nonce-file nonce --ad-file ad --in sealed --out opened
+    check "files, $size bytes" cmp input opened
+    run 0 seal "${secrets[@]}" --ad 0102
+    cp input message && cp output input
+    run 0 open "${secrets[@]}" --ad=0102 --in - --out -
+    check "streams, $size bytes" cmp message output
+  done
+}
+
+hex() {
+  echo "00 01 02 03 04 05 06 07 08090A0B0C0D0E0F" >input
+  run 0 seal "${secrets[@]}" --ad 0001020304050607 --hex-in --hex-out
+  check "known answer" [ "$(cat output)" = 47fd828e70ea670e6ebe4f5a8e9c9437a7da12cc950440d2 ]
+  cp output input
+  run 0 open "${secrets[@]}" --ad 0001020304050607 --hex-in --hex-out --out opened
+  check "opened in hex" [ "$(cat opened)" = 000102030405060708090a0b0c0d0e0f ]
+  check "nothing on standard output beside --out" [ ! -s output ]
+}
+
+file_in_place() {
+  echo "engine 2400 rpm" >log
+  run 0 seal "${secrets[@]}" --in log --out log
+  run 0 open "${secrets[@]}" --in log --out log
+  check "sealed and opened in place" [ "$(cat log)" = "engine 2400 rpm" ]
+}
+
+refusals() {
+  bytes 20 >input
+  refuses 1 "the key is 15 bytes, and must be 16" seal --key "${key%??}" --nonce "$nonce"00
+  refuses 1 "the key is 0 bytes, and must be 16" open --key "" --nonce "$nonce"
+  refuses 1 "the key is 1 byte, and must be 16" open --key 00 --nonce "$nonce"
+  refuses 2 "the nonce is 13 bytes, and must be 12" seal --key "$key" --nonce "$nonce"00
+  bytes 4097 >ad
+  refuses 3 "the associated data is 4097 bytes, and may be at most 4096" seal "${secrets[@]}" --ad-file ad
+  refuses 3 "the associated data is 4097 bytes, and may be at most 4096" open "${secrets[@]}" --ad-file ad
+  refuses 7 "the tag is wrong: the key, the nonce, the associated data or the sealed input is not as it was sealed" \
+    open "${secrets[@]}"
+  bytes 32769 >input
+  refuses 4 "the message is 32769 bytes, and may be at most 32768" seal "${secrets[@]}"
+  bytes 100000 >input
+  refuses 4 "the sealed input is 100000 bytes, and may be at most 32776" open "${secrets[@]}"
+  bytes 7 >input
+  refuses 5 "the sealed input is 7 bytes, and its tag alone is 8" open "${secrets[@]}"
+}
+
+wrong_usage() {
+  : >input
+  misused "no command"
+  misused "unknown command 'sael'" sael
+  misused "unknown option '--kee'" seal --kee "$key"
+  misused "unexpected argument 'log.bin'" seal "${secrets[@]}" log.bin
+  misused "unexpected argument 'twice'" selftest twice
+  misused "--key or --key-file is needed" seal --nonce "$nonce"
+  misused "--nonce or --nonce-file is needed" open --key "$key"
+  misused "--key and --key-file exclude each other" seal "${secrets[@]}" --key-file key
+  misused "--key is given twice" seal "${secrets[@]}" --key "$key"
+  misused "--hex-in is given twice" seal "${secrets[@]}" --hex-in --hex-in
+  misused "--nonce has no value" seal --key "$key" --nonce
+  misused "--key has no value" seal --key --nonce "$nonce"
+  misused "--hex-out takes no value" seal "${secrets[@]}" --hex-out=yes
+  misused "--key: 'x' at place 2 is no hex digit" seal --key 0x00 --nonce "$nonce"
+  misused "--ad: 3 hex digits, and a byte takes two" seal "${secrets[@]}" --ad 123
+  misused "--in: no file 'absent'" seal "${secrets[@]}" --in absent
+  misused "--ad-file: no file 'absent'" seal "${secrets[@]}" --ad-file absent
+  echo "no hex" >input
+  misused "--hex-in: 'n' at place 1 is no hex digit" open "${secrets[@]}" --hex-in
+}
+
+input_and_output_fail() {
+  : >input
+  fails_to "read '.'" seal "${secrets[@]}" --in .
+  fails_to "write 'absent/out'" seal "${secrets[@]}" --out absent/out
+  fails_to "write '/dev/full'" seal "${secrets[@]}" --out /dev/full
+  local status=0
+  "$tool" --help >/dev/full 2>errors || status=$?
+  check "standard output full" [ "$status" = 74 ]
+}
+
+help_and_selftest() {
+  : >input
+  run 0 --help
+  check "--help shows the usage" grep -q "^usage: tikhoplav seal" output
+  cp output help
+  run 0 seal --help
+  check "seal --help" cmp help output
+  bytes 500 >log.bin
+  bytes 16 >lab.key
+  bytes 12 >0001.nonce
+  sed -n '/^EXAMPLES/,$s/^    //p' help >examples
+  check "the examples of --help" env PATH="$(dirname "$tool"):$PATH" sh -e examples >shown
+  check "the example in hex" grep -qE '^[0-9a-f]{46}$' shown
+  check "the example of a file" cmp log.bin log.copy
+  run 0 --version
+  check "--version" [ "$(cat output)" = "tikhoplav $version" ]
+  run 0 selftest
+  check "selftest" [ "$(tail -n 1 output)" = "31 passed, 0 failed" ]
+}
+
+round_trips
+hex
+file_in_place
+refusals
+wrong_usage
+input_and_output_fail
+help_and_selftest
+echo "$checks checks hold"
