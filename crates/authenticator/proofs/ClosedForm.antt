@@ -27,7 +27,7 @@ cond-sized w false s t hs ht = ht
 sum-sized : (w : ℕ) (s t : List Bool) → length s ≡ w → length t ≡ w → length (s ⊞ t) ≡ w
 sum-sized w s t hs ht = length-sum s t (hs ∙ sym ht) ∙ hs
 
-add-sized : (w : ℕ) (a : Authenticator) (m : Bool) → Sized w a → Sized w (add a m)
+pub add-sized : (w : ℕ) (a : Authenticator) (m : Bool) → Sized w a → Sized w (add a m)
 unfolding add
 add-sized w a m sized = record {
   accumulator = search (cond-sized, sum-sized);

@@ -1,3 +1,4 @@
 pub mod ClosedForm
 pub mod Linear
 pub mod Words
+pub mod Cutting

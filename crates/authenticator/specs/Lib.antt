@@ -1,3 +1,4 @@
 pub mod Authenticator
 pub mod ClosedForm
 pub mod Words
+pub mod Cutting

@@ -9,7 +9,7 @@ use lib.ListN.{length, length-append}
 use Rattle.bits.specs.Bytes.{Bytes, bits, bytes, flip}
 use Rattle.bits.specs.Strings.{_⊞_, zeros}
 use Rattle.bits.proofs.Packing.{bits-append, length-bits, length-bytes, bytes-bits, bits-bytes, bytes-append}
-use Rattle.bits.proofs.Sum.{sum-assoc, sum-self, sum-zeros, sum-append, length-sum}
+use Rattle.bits.proofs.Sum.{sum-assoc, sum-self, sum-zeros, sum-append, sum-cancel, length-sum}
 
 -- There is one flip for each bit of the string.
 abbrev pub Flips : List ℕ → List Bool → Type 0
@@ -41,3 +41,9 @@ unfolding flip
 flip-append s t d e h =
     ap₂ bytes (length-append s t) (ap (λ (b : List Bool). b ⊞ (d ++ e)) (bits-append s t) ∙ sum-append (bits s) d (bits t) e (length-bits s ∙ sym h))
     ∙ bytes-append (length s) (length t) (bits s ⊞ d) (bits t ⊞ e) (length-flipped s d h)
+
+-- Flips that make the same of a string are the same.
+pub flip-injective : (s : List ℕ) (d e : List Bool) → Flips s d → Flips s e → flip s d ≡ flip s e → d ≡ e
+flip-injective s d e hd he same =
+    sum-cancel (bits s) d e (le-of-eq (length-bits s ∙ sym hd)) (le-of-eq (length-bits s ∙ sym he))
+    (sym (bits-flip s d hd) ∙ ap bits same ∙ bits-flip s e he)

@@ -1,16 +1,22 @@
--- A register that moves keeps its size.
+-- A register that moves: its size, its last places, and what is shifted in.
 -- Assumes nothing.
 use mathlib.Core.Path.{_≡_, sym, ap, _∙_}
 use mathlib.Core.List.{List, [], _∷_, _++_, foldl, append-nil, append-assoc}
 use Prim.Native.Nat.{ℕ, _+_, _<_, _≤_}
-use native.Mathlib.Nat.{not-suc-le-zero}
+use native.Mathlib.Nat.{not-suc-le-zero, add-comm}
 use native.Mathlib.Omega.{arith}
 use lib.ListN.{length, drop, length-append, length-drop}
-use lib.Seq.{drop-drop, drop-at}
+use lib.Seq.{drop-drop, drop-at, drop-append-le}
 use Rattle.bits.specs.Strings.{shift}
 
 pub length-shift : {A : Type 0} (n : ℕ) (r : List A) (new : A) → 0 < n → length r ≡ n → length (shift r new) ≡ n
 length-shift n r new pos e = omega (arith, length-append (drop 1 r) (new ∷ []), length-drop 1 r)
+
+-- The last places of a register move as a register.
+pub drop-shift : {A : Type 0} (k : ℕ) (r : List A) (new : A) → k < length r → drop k (shift r new) ≡ shift (drop k r) new
+drop-shift k r new h =
+    drop-append-le k (drop 1 r) (new ∷ []) (omega (arith, length-drop 1 r))
+    ∙ ap (λ (s : List _). s ++ (new ∷ [])) (drop-drop k 1 r ∙ ap (λ (n : ℕ). drop n r) (add-comm 1 k) ∙ sym (drop-drop 1 k r))
 
 -- Bits shifted in one after the other push as many out.
 pub shift-all : {A : Type 0} (r s : List A) → length s ≤ length r → foldl shift r s ≡ drop (length s) (r ++ s)

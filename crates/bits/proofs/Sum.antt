@@ -3,9 +3,9 @@
 use mathlib.Core.Path.{_≡_, refl, sym, ap, ap₂, _∙_}
 use mathlib.Core.Bool.{Bool, true, false, not, Bool·not-not}
 use mathlib.Core.List.{List, [], _∷_, _++_}
-use Prim.Native.Nat.{ℕ, zero, suc, _≤_}
-use native.Mathlib.Nat.{suc-inj, le-of-suc-le-suc, not-suc-le-zero, le-of-eq}
-use lib.ListN.{length, getD}
+use Prim.Native.Nat.{ℕ, zero, suc, _-_, _≤_}
+use native.Mathlib.Nat.{suc-inj, le-of-suc-le-suc, not-suc-le-zero, le-of-eq, suc-sub-suc, zero-sub, sub-zero}
+use lib.ListN.{length, getD, drop}
 use Rattle.bits.specs.Bit.{_⊻_}
 use Rattle.bits.specs.Strings.{_⊞_, zeros}
 
@@ -84,6 +84,19 @@ getD-sum [] t i = refl
 getD-sum (a ∷ s) [] i = sym (xor-false (getD (a ∷ s) i false))
 getD-sum (a ∷ s) (b ∷ t) zero = refl
 getD-sum (a ∷ s) (b ∷ t) (suc i) = getD-sum s t i
+
+-- The last places of a sum, and of zeros.
+pub drop-sum : (k : ℕ) (s t : List Bool) → drop k (s ⊞ t) ≡ drop k s ⊞ drop k t
+unfolding _⊞_
+drop-sum zero s t = refl
+drop-sum (suc k) [] t = refl
+drop-sum (suc k) (a ∷ s) [] = sym (sum-nil (drop k s))
+drop-sum (suc k) (a ∷ s) (b ∷ t) = drop-sum k s t
+
+pub drop-zeros : (k n : ℕ) → drop k (zeros n) ≡ zeros (n - k)
+drop-zeros zero n = ap zeros (sym (sub-zero n))
+drop-zeros (suc k) zero = ap zeros (sym (zero-sub (suc k)))
+drop-zeros (suc k) (suc n) = drop-zeros k n ∙ ap zeros (sym (suc-sub-suc n k))
 
 -- A string added twice adds nothing.
 pub sum-twice : (s t : List Bool) → length s ≤ length t → s ⊞ (s ⊞ t) ≡ t

@@ -9,27 +9,34 @@ use borrow.Author.Tests.{ltb-false, le-ltb, eq-eqb}
 use lib.Dec.{ltb}
 use lib.ListN.{length}
 use Rattle.bits.specs.Bytes.{Bytes}
-use Rattle.grain128aead.specs.declared.Refusal.the-variants.{TagDiffers}
-use Rattle.grain128aead.specs.declared.Check.{Check}
-use Rattle.grain128aead.specs.declared.Check.the-variants.{Passed}
-use Rattle.grain128aead.specs.Sizes.{keySize, nonceSize, tagSize, adLimit, messageLimit}
-use Rattle.grain128aead.specs.Payload.{ciphertext, deciphered, tag, payload, ciphertextPart, tagPart}
-use Rattle.grain128aead.specs.Refusals.{Outcome, sizeRefusals, check, settled, refused, success}
+use Rattle.refusals.specs.declared.Refusal.the-variants.{TagDiffers}
+use Rattle.refusals.specs.declared.Check.{Check}
+use Rattle.refusals.specs.declared.Check.the-variants.{Passed}
+use Rattle.refusals.specs.Refusals.{check}
+use Rattle.refusals.specs.Outcome.{Outcome, settled, refused, success}
+use Rattle.refusals.specs.Demand1.{Accepts}
+use Rattle.refusals.proofs.Demand1.{demand1}
+use Rattle.refusals.proofs.LastRow.{after, settled-last}
+use Rattle.startup.specs.Sizes.{keySize, nonceSize}
+use Rattle.payload.specs.Sizes.{tagSize}
+use Rattle.grain128aead.specs.Sizes.{adLimit, messageLimit}
+use Rattle.payload.specs.Payload.{ciphertext, deciphered, tag, payload, ciphertextPart, tagPart}
+use Rattle.grain128aead.specs.Order.{sizeRefusals, order}
 use Rattle.grain128aead.specs.Calls.{rows, sealingRow, sealed, recovered, openingRow, opened, tagDiffers}
-use Rattle.grain128aead.specs.Demand1.{Demand1, Accepts}
+use Rattle.grain128aead.specs.Demand1.{Demand1}
 use Rattle.grain128aead.specs.Demand2.{Legal, Makes, Sealing, Demand2}
-use Rattle.grain128aead.proofs.Payload.{ciphertextPart-joined, tagPart-joined, parts-join, ciphertextPart-bytes, lengths, length-deciphered, deciphered-bytes, length-tag, length-payload, deciphered-ciphertext, ciphertext-deciphered}
-use Rattle.grain128aead.proofs.Demand1.{demand1}
-use Rattle.grain128aead.proofs.Settled.{after, sizesOf, opened-settled, settled-tag}
+use Rattle.payload.proofs.Payload.{ciphertextPart-joined, tagPart-joined, parts-join, ciphertextPart-bytes, lengths, length-deciphered, deciphered-bytes, length-tag, length-payload, deciphered-ciphertext, ciphertext-deciphered}
+use Rattle.grain128aead.proofs.Demand1.{unrefused}
+use Rattle.grain128aead.proofs.Settled.{sizesOf, opened-settled}
 use Rattle.grain128aead.proofs.Rows.{rows-clear, clear-rows, Authentic, tag-authentic, authentic-tag}
 
 module _ (key nonce ad message out : List ℕ) where
   pub demand1-sealing : Demand1 (sealingRow key nonce ad message out) (payload key nonce ad message) out (sealed key nonce ad message out)
   unfolding sealed
-  demand1-sealing = demand1 (sealingRow key nonce ad message out) (payload key nonce ad message) out
+  demand1-sealing = demand1 order (sealingRow key nonce ad message out) (payload key nonce ad message) out
 
   accepted : Legal key nonce ad message → length message + tagSize ≤ length out → Accepts (sealed key nonce ad message out)
-  accepted legal room = demand1-sealing .accepts .1 (clear-rows key nonce ad _ _ _ _ record {
+  accepted legal room = unrefused demand1-sealing .1 (clear-rows key nonce ad _ _ _ _ record {
     keySized = legal .keySized;
     nonceSized = legal .nonceSized;
     adFits = legal .adFits;
@@ -41,7 +48,7 @@ module _ (key nonce ad message out : List ℕ) where
 
   legal : Accepts (sealed key nonce ad message out) → Legal key nonce ad message × (length message + tagSize ≤ length out)
   legal a =
-      let c = rows-clear key nonce ad _ _ _ _ (demand1-sealing .accepts .0 a) in (
+      let c = rows-clear key nonce ad _ _ _ _ (unrefused demand1-sealing .0 a) in (
         record { keySized = c .keySized; nonceSized = c .nonceSized; adFits = c .adFits; messageFits = ltb-false messageLimit (length message) (c .fits) },
         ltb-false (length out) (length message + tagSize) (c .room),
       )
@@ -52,7 +59,7 @@ module _ (key nonce ad message out : List ℕ) where
 module _ (key nonce ad input out : List ℕ) where
   pub demand1-opening : Demand1 (openingRow key nonce ad input out) (recovered key nonce ad input) out (opened key nonce ad input out)
   unfolding opened
-  demand1-opening = demand1 (openingRow key nonce ad input out) (recovered key nonce ad input) out
+  demand1-opening = demand1 order (openingRow key nonce ad input out) (recovered key nonce ad input) out
 
   -- The sizes are in order.
   pub record InOrder : Type 0 where
@@ -89,12 +96,12 @@ module _ (key nonce ad input out : List ℕ) where
   pub opening-tag : InOrder → opened key nonce ad input out ≡ cond (tagDiffers key nonce ad input) (refused TagDiffers out) (success (recovered key nonce ad input) out)
   opening-tag o =
       opened-settled key nonce ad input out
-      ∙ ap (λ (c : Check). settled (after c (tagDiffers key nonce ad input)) (recovered key nonce ad input) out) (passed o)
-      ∙ settled-tag (tagDiffers key nonce ad input) (recovered key nonce ad input) out
+      ∙ ap (λ (c : Check). settled (after c TagDiffers (tagDiffers key nonce ad input)) (recovered key nonce ad input) out) (passed o)
+      ∙ settled-last TagDiffers (tagDiffers key nonce ad input) (recovered key nonce ad input) out
 
   pub opening-in-order : Accepts (opened key nonce ad input out) → InOrder × Authentic key nonce ad input
   opening-in-order a =
-      let c = rows-clear key nonce ad _ _ _ _ (demand1-opening .accepts .0 a) in (
+      let c = rows-clear key nonce ad _ _ _ _ (unrefused demand1-opening .0 a) in (
         record {
           keySized = c .keySized;
           nonceSized = c .nonceSized;

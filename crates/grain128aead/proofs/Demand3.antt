@@ -1,30 +1,38 @@
--- Demand 3: which flips opening accepts.
+-- Demand 3: strings tell pairs apart, and which flips opening accepts.
 -- Assumes nothing.
 use mathlib.Core.Path.{_≡_, refl, sym, ap, ap₂, _∙_, subst}
 use mathlib.Core.Bool.{Bool, true, false, cond}
 use mathlib.Core.List.{List, _++_}
-use Prim.Native.Nat.{ℕ, _+_, _*_, _≤_}
-use native.Mathlib.Nat.{le-of-eq}
+use Prim.Native.Nat.{ℕ, _+_, _*_, _≤_, _<_}
+use native.Mathlib.Nat.{le-of-eq, lt-of-le-of-lt}
+use lib.Dec.{lit<}
 use lib.ListN.{length, length-append}
-use Rattle.bits.specs.Bytes.{bits, bytes, flip}
+use Rattle.bits.specs.Bytes.{flip}
 use Rattle.bits.specs.Strings.{_⊞_}
-use Rattle.bits.proofs.Flip.{Flips, length-flip, flip-flip, flip-append}
-use Rattle.bits.proofs.Packing.{length-bytes, bits-bytes, bytes-injective}
-use Rattle.bits.proofs.Sum.{sum-comm, sum-twice, sum-cancel, length-sum}
-use Rattle.grain128aead.specs.declared.Refusal.the-variants.{TagDiffers}
-use Rattle.grain128aead.specs.Sizes.{tagSize, adLimit}
-use Rattle.grain128aead.specs.StartUp.{initialised}
-use Rattle.grain128aead.specs.Machine.{run}
-use Rattle.grain128aead.specs.AuthenticatedString.{authenticated}
-use Rattle.grain128aead.specs.Payload.{ciphertext, deciphered, tag, payload, ciphertextPart, tagPart}
-use Rattle.grain128aead.specs.Refusals.{Outcome, refused, success}
+use Rattle.bits.proofs.Flip.{Flips, length-flip, flip-flip, flip-append, flip-injective}
+use Rattle.bits.proofs.Sum.{sum-comm, sum-twice}
+use Rattle.refusals.specs.declared.Refusal.the-variants.{TagDiffers}
+use Rattle.refusals.specs.Outcome.{Outcome, refused, success}
+use Rattle.payload.specs.Sizes.{tagSize}
+use Rattle.grain128aead.specs.Sizes.{adLimit}
+use Rattle.payload.specs.Payload.{ciphertext, deciphered, tag, payload, ciphertextPart, tagPart}
+use Rattle.payload.specs.Laws.{flippedRegisters}
 use Rattle.grain128aead.specs.Calls.{recovered, tagDiffers, opened}
 use Rattle.grain128aead.specs.Demand2.{Legal}
-use Rattle.grain128aead.specs.Demand3.{flippedRegisters, Flipped, Agrees, Demand3}
-use Rattle.grain128aead.proofs.Payload.{ciphertextPart-joined, tagPart-joined, length-ciphertext, length-tag, under, length-under, ciphertext-flip, deciphered-flip, under-same}
+use Rattle.grain128aead.specs.Demand3.{Distinct, Flipped, Agrees, Demand3}
+use Rattle.payload.proofs.AuthenticatedString.{unambiguous}
+use Rattle.payload.proofs.Payload.{ciphertextPart-joined, tagPart-joined, length-ciphertext, length-tag, under, length-under, ciphertext-flip, deciphered-flip, under-same}
 use Rattle.grain128aead.proofs.Rows.{Authentic, tag-authentic, authentic-tag}
 use Rattle.grain128aead.proofs.Demand2.{InOrder, legal-in-order, opening-tag, opening-in-order}
-use Rattle.grain128aead.proofs.Accumulated.{states, length-flippedRegisters, accumulator-flip}
+use Rattle.payload.proofs.Flips.{length-flippedRegisters, tag-flips}
+
+-- A legal AD's length has two bytes at most.
+adLimit-coded : adLimit < 65536
+unfolding adLimit
+adLimit-coded = lit< tt
+
+pub distinct : Distinct
+distinct ad message ad′ message′ b c b′ c′ l l′ = unambiguous ad message ad′ message′ b c b′ c′ (lt-of-le-of-lt l adLimit-coded) (lt-of-le-of-lt l′ adLimit-coded)
 
 -- Three flips of which the first and the last are the same are the one in the middle.
 flip-between : (s : List ℕ) (k d : List Bool) → Flips s k → Flips s d → flip (flip (flip s k) d) k ≡ flip s d
@@ -76,45 +84,35 @@ module _ {key nonce ad input : List ℕ} (f : Flipped key nonce ad input) where
       ∙ ap (λ (c : List ℕ). flip (flip c inCiphertext) (under key nonce oldAd (length oldMessage))) (ciphertext-flip key nonce oldAd oldMessage)
       ∙ flip-between oldMessage (under key nonce oldAd (length oldMessage)) inCiphertext (length-under key nonce oldAd (length oldMessage)) (f .ciphertextFlips)
 
-  -- The old tag's bits, and the registers at the flipped data positions.
-  old : List Bool
-  old = run (initialised key nonce) (authenticated oldAd oldMessage) .authenticator .accumulator
-
-  length-old : length old ≡ 64
-  unfolding old
-  length-old = states key nonce (authenticated oldAd oldMessage) (legal .keySized) (legal .nonceSized) .authenticator .accumulator
-
+  -- The registers at the flipped data positions.
   moved : List Bool
   moved = flippedRegisters key nonce oldAd inAd inCiphertext
 
-  length-moved : length moved ≡ 64
+  -- The received tag is the old one with its own flips, the recomputed one the old one with the registers at the flipped positions.
+  received-tag : tagPart input ≡ flip (tag key nonce oldAd oldMessage) inTag
+  unfolding t′
+  received-tag = ap tagPart input-parts ∙ tagPart-joined c′ t′ length-t′
+
+  recomputed-tag : tag key nonce ad (recovered key nonce ad input) ≡ flip (tag key nonce oldAd oldMessage) moved
   unfolding moved
-  length-moved = length-flippedRegisters key nonce (legal .keySized) (legal .nonceSized) oldAd inAd inCiphertext
-
-  received-tag : tagPart input ≡ bytes tagSize (old ⊞ inTag)
-  unfolding t′ tag flip old
-  received-tag =
-      ap tagPart input-parts ∙ tagPart-joined c′ t′ length-t′
-      ∙ ap₂ (λ (n : ℕ) (b : List Bool). bytes n (b ⊞ inTag)) (length-bytes tagSize old) (bits-bytes tagSize old length-old)
-
-  recomputed-tag : tag key nonce ad (recovered key nonce ad input) ≡ bytes tagSize (old ⊞ moved)
-  unfolding tag old moved
   recomputed-tag =
       ap₂ (tag key nonce) (f .flippedAd) recovers
-      ∙ ap (bytes tagSize) (accumulator-flip key nonce (legal .keySized) (legal .nonceSized) oldAd oldMessage inAd inCiphertext (f .adFlips) (f .ciphertextFlips))
+      ∙ tag-flips key nonce oldAd oldMessage inAd inCiphertext (legal .keySized) (legal .nonceSized) (f .adFlips) (f .ciphertextFlips)
+
+  -- There are as many flips as the tag has bits.
+  tag-bits : (d : List Bool) → length d ≡ 64 → Flips (tag key nonce oldAd oldMessage) d
+  tag-bits d e = e ∙ ap (λ (n : ℕ). 8 * n) (sym (length-tag key nonce oldAd oldMessage))
 
   authentic-agrees : Authentic key nonce ad input → Agrees f
   unfolding moved
   authentic-agrees a =
-      sum-cancel old moved inTag (le-of-eq (length-old ∙ sym length-moved)) (le-of-eq (length-old ∙ sym (f .tagFlips)))
-      (bytes-injective tagSize (old ⊞ moved) (old ⊞ inTag)
-      (length-sum old moved (length-old ∙ sym length-moved) ∙ length-old)
-      (length-sum old inTag (length-old ∙ sym (f .tagFlips)) ∙ length-old)
-      (sym recomputed-tag ∙ sym a ∙ received-tag))
+      flip-injective (tag key nonce oldAd oldMessage) moved inTag
+      (tag-bits moved (length-flippedRegisters key nonce (legal .keySized) (legal .nonceSized) oldAd inAd inCiphertext)) (tag-bits inTag (f .tagFlips))
+      (sym recomputed-tag ∙ sym a ∙ received-tag)
 
   agrees-authentic : Agrees f → Authentic key nonce ad input
   unfolding moved
-  agrees-authentic agrees = received-tag ∙ ap (λ (r : List Bool). bytes tagSize (old ⊞ r)) (sym agrees) ∙ sym recomputed-tag
+  agrees-authentic agrees = received-tag ∙ ap (flip (tag key nonce oldAd oldMessage)) (sym agrees) ∙ sym recomputed-tag
 
   in-order : (out : List ℕ) → length oldMessage ≤ length out → InOrder key nonce ad input out
   in-order out room =

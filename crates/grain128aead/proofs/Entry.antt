@@ -14,34 +14,36 @@ use Rattle.bits.specs.Bytes.{Bytes, word, value, bits, bytes, same}
 use Rattle.bits.proofs.Packing.{bytes-bits, bits-bytes, length-bits, Bytes-drop}
 use Rattle.bits.proofs.Spelling.{spelled-eight}
 use Rattle.bits.proofs.Word.{length-word, value-word}
-use Rattle.grain128aead.specs.declared.Check.{Check}
-use Rattle.grain128aead.specs.declared.Check.the-variants.{Passed, Failed}
-use Rattle.grain128aead.specs.declared.Refusal.{Refusal}
-use Rattle.grain128aead.specs.declared.Refusal.the-variants.{TagDiffers}
-use Rattle.grain128aead.specs.declared.engine.Engine.{Engine}
-use Rattle.grain128aead.specs.declared.Answer.the-variants.{Count, Refused}
-use Rattle.grain128aead.specs.Sizes.{tagSize, messageLimit}
-use Rattle.grain128aead.specs.StartUp.{initialised}
-use Rattle.grain128aead.specs.Machine.{State, run, crypt, decipher}
-use Rattle.grain128aead.specs.AuthenticatedString.{header, authenticated}
-use Rattle.grain128aead.specs.Payload.{begun, ciphertext, deciphered, tag, payload, ciphertextPart, tagPart}
-use Rattle.grain128aead.specs.Refusals.{outcome, refused, success, settled, judged}
+use Rattle.refusals.specs.declared.Check.{Check}
+use Rattle.refusals.specs.declared.Check.the-variants.{Passed, Failed}
+use Rattle.refusals.specs.declared.Refusal.{Refusal}
+use Rattle.refusals.specs.declared.Refusal.the-variants.{TagDiffers}
+use Rattle.machine.specs.declared.engine.Engine.{Engine}
+use Rattle.refusals.specs.declared.Answer.the-variants.{Count, Refused}
+use Rattle.refusals.specs.Outcome.{outcome, refused, success, settled}
+use Rattle.refusals.proofs.Demand1.{passed-clear}
+use Rattle.refusals.proofs.LastRow.{after, settled-last}
+use Rattle.machine.specs.Machine.{State, run, crypt, decipher}
+use Rattle.machine.specs.Engine.{stateOf, CryptsAll}
+use Rattle.machine.proofs.Machine.{run-append}
+use Rattle.startup.specs.StartUp.{initialised}
+use Rattle.payload.specs.Sizes.{tagSize}
+use Rattle.grain128aead.specs.Sizes.{messageLimit}
+use Rattle.payload.specs.AuthenticatedString.{header, authenticated}
+use Rattle.payload.specs.Payload.{begun, ciphertext, deciphered, tag, payload, ciphertextPart, tagPart}
+use Rattle.grain128aead.specs.Order.{order}
 use Rattle.grain128aead.specs.Calls.{rows, sealed, recovered, tagDiffers, opened}
-use Rattle.grain128aead.specs.Engine.{stateOf, CryptsAll}
-use Rattle.grain128aead.proofs.Demand1.{demand1}
-use Rattle.grain128aead.proofs.Machine.{run-append}
-use Rattle.grain128aead.proofs.OverBytes.{length-crypt}
-use Rattle.grain128aead.proofs.Payload.{lengths, length-ciphertext, length-payload, length-tag, length-deciphered, tagPart-is}
-use Rattle.grain128aead.proofs.Rows.{Clear, rows-clear, tag-authentic, authentic-tag}
-use Rattle.grain128aead.proofs.Settled.{sizesOf, after, check-rows, sealed-settled, opened-settled, settled-tag}
+use Rattle.grain128aead.proofs.Demand1.{complete}
+use Rattle.payload.proofs.Payload.{lengths, length-ciphertext, length-payload, length-tag, length-deciphered, deciphered-bits, tagPart-is}
+use Rattle.grain128aead.proofs.Rows.{NoneApplies, rows-clear, tag-authentic, authentic-tag}
+use Rattle.grain128aead.proofs.Settled.{sizesOf, check-rows, sealed-settled, opened-settled}
 
 -- A check that passed tells every size.
-pub passed-clear : (key nonce ad : List ℕ) (tooLong tooShort noRoom : Bool) → sizesOf key nonce ad tooLong tooShort noRoom ≡ Passed → Clear key nonce ad tooLong tooShort noRoom false
-unfolding judged settled
-passed-clear key nonce ad tooLong tooShort noRoom e =
+sizes-clear : (key nonce ad : List ℕ) (tooLong tooShort noRoom : Bool) → sizesOf key nonce ad tooLong tooShort noRoom ≡ Passed → NoneApplies key nonce ad tooLong tooShort noRoom false
+sizes-clear key nonce ad tooLong tooShort noRoom e =
     rows-clear key nonce ad tooLong tooShort noRoom false
-    (demand1 (rows key nonce ad tooLong tooShort noRoom false) [] [] .accepts .0
-    (0, ap (λ (c : Check). settled c [] [] .answer) (check-rows key nonce ad tooLong tooShort noRoom false ∙ ap (λ (c : Check). after c false) e)))
+    (λ r. passed-clear (rows key nonce ad tooLong tooShort noRoom false) order
+    (check-rows key nonce ad tooLong tooShort noRoom false ∙ ap (λ (c : Check). after c TagDiffers false) e) r (complete r))
 
 -- The tag, from the machine where the message begins.
 module _ (key nonce ad message : List ℕ) where
@@ -94,11 +96,6 @@ module _ (received : List ℕ) (computed : List Bool) (r n : ℕ) (eight : lengt
       ∙ ap value (tagged ∙ sym (ap bits e ∙ bits-bytes 8 computed long) ∙ sym (spelled-eight received n eight spelled))
       ∙ value-word 64 n ∙ ap (λ (k : ℕ). k % 2 ^ 64) spelled ∙ mod-mod (value (bits received)) (2 ^ 64) ∙ sym spelled
 
--- The message that a ciphertext hides, as bits.
-pub deciphered-bits : (key nonce ad c : List ℕ) → bits (deciphered key nonce ad c) ≡ decipher (begun key nonce ad) (bits c)
-unfolding deciphered
-deciphered-bits key nonce ad c = bits-bytes (length c) (decipher (begun key nonce ad) (bits c)) (length-crypt false (begun key nonce ad) (bits c) ∙ length-bits c)
-
 -- ---- sealing
 
 -- What the check of the sizes says when sealing.
@@ -114,21 +111,24 @@ module _ {key nonce ad message lent : List ℕ} {c : Check} (sizes : SealChecked
   seal-failed e = sym (sealed-settled key nonce ad message lent ∙ ap (λ (d : Check). settled d (payload key nonce ad message) lent) (sym (sizes .checked) ∙ e))
 
   module _ (e : c ≡ Passed) where
-    pub seal-clear : Clear key nonce ad (ltb messageLimit (length message)) false (ltb (length lent) (length message + tagSize)) false
-    seal-clear = passed-clear key nonce ad _ _ _ (sym (sizes .checked) ∙ e)
+    pub seal-clear : NoneApplies key nonce ad (ltb messageLimit (length message)) false (ltb (length lent) (length message + tagSize)) false
+    seal-clear = sizes-clear key nonce ad _ _ _ (sym (sizes .checked) ∙ e)
 
     pub seal-room : length message + tagSize ≤ length lent
     seal-room = ltb-false (length lent) (length message + tagSize) (seal-clear .room)
 
-    pub seal-passed : (b done : Engine) (t : ℕ) {out written : List ℕ} → stateOf b ≡ begun key nonce ad → CryptsAll true (stateOf b) message lent out done
+    pub seal-passed : (b done : Engine) (t : ℕ) {out written : List ℕ} → stateOf b ≡ begun key nonce ad → CryptsAll true (stateOf b) (take (length lent) message) lent out done
         → word 64 t ≡ run (stateOf done) (true ∷ []) .authenticator .accumulator → written ≡ paste out (length message) (bytes 8 (word 64 t)) 8
         → outcome (Count (length message + tagSize)) written ≡ sealed key nonce ad message lent
     unfolding ciphertext settled
     seal-passed b done t {out} {written} began crypted tagged stored =
         sealed-output key nonce ad message lent out written seal-room
-        (crypted .written ∙ ap (λ (st : State). bytes (length message) (crypt true st (bits message)) ++ drop (length message) lent) began)
-        (stored ∙ ap (λ (s : List ℕ). paste out (length message) s 8) (tag-word key nonce ad message (stateOf done) t (crypted .engine ∙ ap (λ (st : State). run st (bits message)) began) tagged))
+        (whole .written ∙ ap (λ (st : State). bytes (length message) (crypt true st (bits message)) ++ drop (length message) lent) began)
+        (stored ∙ ap (λ (s : List ℕ). paste out (length message) s 8) (tag-word key nonce ad message (stateOf done) t (whole .engine ∙ ap (λ (st : State). run st (bits message)) began) tagged))
         ∙ sym (sealed-settled key nonce ad message lent ∙ ap (λ (d : Check). settled d (payload key nonce ad message) lent) (sym (sizes .checked) ∙ e))
+      where
+        whole : CryptsAll true (stateOf b) message lent out done
+        whole = rw (take-all (length lent) message (omega (arith, seal-room))) at crypted
 
 -- ---- opening
 
@@ -152,11 +152,11 @@ module _ {key nonce ad input lent : List ℕ} {c : Check} (sizes : OpenChecked k
   pub open-failed : {r : Refusal} → c ≡ Failed r → outcome (Refused r) lent ≡ opened key nonce ad input lent
   unfolding settled
   open-failed e =
-      sym (opened-settled key nonce ad input lent ∙ ap (λ (d : Check). settled (after d (tagDiffers key nonce ad input)) (recovered key nonce ad input) lent) (sym (sizes .checked) ∙ e))
+      sym (opened-settled key nonce ad input lent ∙ ap (λ (d : Check). settled (after d TagDiffers (tagDiffers key nonce ad input)) (recovered key nonce ad input) lent) (sym (sizes .checked) ∙ e))
 
   module _ (e : c ≡ Passed) where
-    pub open-clear : Clear key nonce ad (ltb (messageLimit + tagSize) (length input)) (ltb (length input) tagSize) (ltb (length lent) (length input - tagSize)) false
-    open-clear = passed-clear key nonce ad _ _ _ (sym (sizes .checked) ∙ e)
+    pub open-clear : NoneApplies key nonce ad (ltb (messageLimit + tagSize) (length input)) (ltb (length input) tagSize) (ltb (length lent) (length input - tagSize)) false
+    open-clear = sizes-clear key nonce ad _ _ _ (sym (sizes .checked) ∙ e)
 
     pub open-reaches : tagSize ≤ length input
     open-reaches = ltb-false (length input) tagSize (open-clear .reaches)
@@ -167,8 +167,8 @@ module _ {key nonce ad input lent : List ℕ} {c : Check} (sizes : OpenChecked k
     by-tag : (differs : Bool) → tagDiffers key nonce ad input ≡ differs → opened key nonce ad input lent ≡ cond differs (refused TagDiffers lent) (success (recovered key nonce ad input) lent)
     by-tag differs h =
         opened-settled key nonce ad input lent
-        ∙ ap₂ (λ (d : Check) (b : Bool). settled (after d b) (recovered key nonce ad input) lent) (sym (sizes .checked) ∙ e) h
-        ∙ settled-tag differs (recovered key nonce ad input) lent
+        ∙ ap₂ (λ (d : Check) (b : Bool). settled (after d TagDiffers b) (recovered key nonce ad input) lent) (sym (sizes .checked) ∙ e) h
+        ∙ settled-last TagDiffers differs (recovered key nonce ad input) lent
 
     -- The computed tag, from the machine after the message that the input hides.
     module _ {b done : Engine} {r n : ℕ} (words : Compared key nonce ad input b done r n) where
@@ -184,14 +184,17 @@ module _ {key nonce ad input lent : List ℕ} {c : Check} (sizes : OpenChecked k
       tag-bytes : Bytes (tagPart input)
       tag-bytes = rw (tagPart-is input open-reaches) (Bytes-drop (length input - tagSize) input (words .isBytes))
 
-      pub open-passed : {last : Engine} {out : List ℕ} → r ≡ n → CryptsAll false (stateOf b) (ciphertextPart input) lent out last → outcome (Count (length input - tagSize)) out ≡ opened key nonce ad input lent
+      pub open-passed : {last : Engine} {out : List ℕ} → r ≡ n → CryptsAll false (stateOf b) (take (length lent) (ciphertextPart input)) lent out last → outcome (Count (length input - tagSize)) out ≡ opened key nonce ad input lent
       unfolding recovered deciphered
       open-passed {last} {out} same crypted =
-          ap₂ outcome (ap Count counted) (crypted .written ∙ ap₂ (λ (st : State) (k : ℕ). bytes (length part) (decipher st (bits part)) ++ drop k lent) (words .began) (sym (length-deciphered key nonce ad part)))
+          ap₂ outcome (ap Count counted) (whole .written ∙ ap₂ (λ (st : State) (k : ℕ). bytes (length part) (decipher st (bits part)) ++ drop k lent) (words .began) (sym (length-deciphered key nonce ad part)))
           ∙ sym (by-tag false (authentic-tag key nonce ad input (same-number (tagPart input) (word 64 r) r n eight tag-bytes (length-word 64 r) (words .small) (words .spelled) refl same ∙ computed)))
         where
           part : List ℕ
           part = ciphertextPart input
+
+          whole : CryptsAll false (stateOf b) part lent out last
+          whole = rw (take-all (length lent) part (omega (arith, lengths key nonce ad [] input .ciphertextPart open-reaches, open-room))) at crypted
 
           counted : length input - tagSize ≡ length (recovered key nonce ad input)
           counted = sym (length-deciphered key nonce ad part ∙ lengths key nonce ad [] input .ciphertextPart open-reaches)

@@ -1,16 +1,6 @@
-pub mod Machine
-pub mod Loading
-pub mod AuthenticatedString
-pub mod Clocks
-pub mod Bytewise
-pub mod Filling
-pub mod OverBytes
 pub mod Demand1
-pub mod Payload
 pub mod Settled
 pub mod Rows
 pub mod Demand2
-pub mod Accumulated
 pub mod Demand3
-pub mod Examples
 pub mod Entry

@@ -9,13 +9,14 @@ use lib.Dec.{eqb}
 use lib.ListN.{length}
 use Rattle.bits.specs.Bytes.{same}
 use Rattle.bits.proofs.Packing.{same-equal, equal-same}
-use Rattle.grain128aead.specs.declared.Refusal.{Refusal}
-use Rattle.grain128aead.specs.declared.Refusal.the-variants.{KeySize, NonceSize, AdTooLong, MessageTooLong, SealedTooShort, OutputTooShort, TagDiffers}
-use Rattle.grain128aead.specs.Sizes.{keySize, nonceSize, adLimit}
-use Rattle.grain128aead.specs.Payload.{tag, tagPart}
+use Rattle.refusals.specs.declared.Refusal.{Refusal}
+use Rattle.refusals.specs.declared.Refusal.the-variants.{KeySize, NonceSize, AdTooLong, MessageTooLong, SealedTooShort, OutputTooShort, TagDiffers}
+use Rattle.startup.specs.Sizes.{keySize, nonceSize}
+use Rattle.grain128aead.specs.Sizes.{adLimit}
+use Rattle.payload.specs.Payload.{tag, tagPart}
 use Rattle.grain128aead.specs.Calls.{rows, recovered, tagDiffers}
 
-pub record Clear (key nonce ad : List ℕ) (tooLong tooShort noRoom wrongTag : Bool) : Type 0 where
+pub record NoneApplies (key nonce ad : List ℕ) (tooLong tooShort noRoom wrongTag : Bool) : Type 0 where
   pub keySized : length key ≡ keySize
   pub nonceSized : length nonce ≡ nonceSize
   pub adFits : length ad ≤ adLimit
@@ -25,7 +26,7 @@ pub record Clear (key nonce ad : List ℕ) (tooLong tooShort noRoom wrongTag : B
   pub authentic : wrongTag ≡ false
 
 module _ (key nonce ad : List ℕ) (tooLong tooShort noRoom wrongTag : Bool) where
-  pub rows-clear : ((r : Refusal) → rows key nonce ad tooLong tooShort noRoom wrongTag r ≡ false) → Clear key nonce ad tooLong tooShort noRoom wrongTag
+  pub rows-clear : ((r : Refusal) → rows key nonce ad tooLong tooShort noRoom wrongTag r ≡ false) → NoneApplies key nonce ad tooLong tooShort noRoom wrongTag
   unfolding rows
   rows-clear none = record {
     keySized = eqb-true (length key) keySize (not-false (eqb (length key) keySize) (none KeySize));
@@ -37,7 +38,7 @@ module _ (key nonce ad : List ℕ) (tooLong tooShort noRoom wrongTag : Bool) whe
     authentic = none TagDiffers;
   }
 
-  pub clear-rows : Clear key nonce ad tooLong tooShort noRoom wrongTag → (r : Refusal) → rows key nonce ad tooLong tooShort noRoom wrongTag r ≡ false
+  pub clear-rows : NoneApplies key nonce ad tooLong tooShort noRoom wrongTag → (r : Refusal) → rows key nonce ad tooLong tooShort noRoom wrongTag r ≡ false
   unfolding rows
   clear-rows clear KeySize = ap not (eq-eqb (length key) keySize (clear .keySized))
   clear-rows clear NonceSize = ap not (eq-eqb (length nonce) nonceSize (clear .nonceSized))

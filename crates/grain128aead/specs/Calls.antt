@@ -6,11 +6,14 @@ use Prim.Native.Nat.{ℕ, _+_, _-_}
 use lib.Dec.{eqb, ltb}
 use lib.ListN.{length}
 use Rattle.bits.specs.Bytes.{same}
-use Rattle.grain128aead.specs.declared.Refusal.{Refusal}
-use Rattle.grain128aead.specs.declared.Refusal.the-variants.{KeySize, NonceSize, AdTooLong, MessageTooLong, SealedTooShort, OutputTooShort, TagDiffers}
-use Rattle.grain128aead.specs.Sizes.{keySize, nonceSize, tagSize, adLimit, messageLimit}
-use Rattle.grain128aead.specs.Payload.{payload, deciphered, tag, ciphertextPart, tagPart}
-use Rattle.grain128aead.specs.Refusals.{Outcome, order, judged}
+use Rattle.refusals.specs.declared.Refusal.{Refusal}
+use Rattle.refusals.specs.declared.Refusal.the-variants.{KeySize, NonceSize, AdTooLong, MessageTooLong, SealedTooShort, OutputTooShort, TagDiffers}
+use Rattle.refusals.specs.Outcome.{Outcome, judged}
+use Rattle.startup.specs.Sizes.{keySize, nonceSize}
+use Rattle.payload.specs.Sizes.{tagSize}
+use Rattle.grain128aead.specs.Sizes.{adLimit, messageLimit}
+use Rattle.payload.specs.Payload.{payload, deciphered, tag, ciphertextPart, tagPart}
+use Rattle.grain128aead.specs.Order.{order}
 
 -- When each row applies. Rows 1 to 3 are the same for both calls; for the others a call says whether they apply.
 unfoldable pub rows : (key nonce ad : List ℕ) → (tooLong tooShort noRoom wrongTag : Bool) → Refusal → Bool

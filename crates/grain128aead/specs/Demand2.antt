@@ -5,10 +5,12 @@ use mathlib.Core.List.{List}
 use Prim.Native.Nat.{ℕ, _+_, _≤_}
 use lib.ListN.{length}
 use Rattle.bits.specs.Bytes.{Bytes}
-use Rattle.grain128aead.specs.Sizes.{keySize, nonceSize, tagSize, adLimit, messageLimit}
-use Rattle.grain128aead.specs.Payload.{payload}
-use Rattle.grain128aead.specs.Refusals.{Outcome, success}
-use Rattle.grain128aead.specs.Demand1.{Accepts}
+use Rattle.refusals.specs.Outcome.{Outcome, success}
+use Rattle.refusals.specs.Demand1.{Accepts}
+use Rattle.startup.specs.Sizes.{keySize, nonceSize}
+use Rattle.payload.specs.Sizes.{tagSize}
+use Rattle.grain128aead.specs.Sizes.{adLimit, messageLimit}
+use Rattle.payload.specs.Payload.{payload}
 
 -- All sizes are legal.
 pub record Legal (key nonce ad message : List ℕ) : Type 0 where

@@ -6,13 +6,12 @@ use mathlib.Core.List.{List, _++_}
 use Prim.Native.Nat.{ℕ, _*_, _≤_}
 use lib.ListN.{length}
 use Rattle.bits.specs.Bytes.{Bytes, flip}
-use Rattle.authenticator.specs.ClosedForm.{registersAt}
-use Rattle.grain128aead.specs.declared.Refusal.the-variants.{TagDiffers}
+use Rattle.refusals.specs.declared.Refusal.the-variants.{TagDiffers}
+use Rattle.refusals.specs.Outcome.{Outcome, success, refused}
+use Rattle.refusals.specs.Demand1.{Accepts}
 use Rattle.grain128aead.specs.Sizes.{adLimit}
-use Rattle.grain128aead.specs.AuthenticatedString.{codedLength, authenticated}
-use Rattle.grain128aead.specs.Laws.{registerAt}
-use Rattle.grain128aead.specs.Refusals.{Outcome, success, refused}
-use Rattle.grain128aead.specs.Demand1.{Accepts}
+use Rattle.payload.specs.AuthenticatedString.{authenticated}
+use Rattle.payload.specs.Laws.{flippedRegisters}
 use Rattle.grain128aead.specs.Demand2.{Makes}
 
 -- Pairs of AD and message, the AD of legal size, that make the same authenticated string are the same pair.
@@ -21,12 +20,6 @@ Distinct =
     (ad message ad′ message′ : List ℕ) → Bytes ad → Bytes message → Bytes ad′ → Bytes message′
     → length ad ≤ adLimit → length ad′ ≤ adLimit
     → authenticated ad message ≡ authenticated ad′ message′ → (ad ≡ ad′) × (message ≡ message′)
-
--- The exclusive-or of the registers at the flipped data positions. The data, first the AD and then the message, begins after the coded
--- length; a flipped ciphertext bit has its message bit's position.
-unfoldable pub flippedRegisters : (key nonce ad : List ℕ) → (inAd inCiphertext : List Bool) → List Bool
-flippedRegisters key nonce ad inAd inCiphertext =
-    registersAt 64 (registerAt key nonce) (8 * length (codedLength (length ad))) (inAd ++ inCiphertext)
 
 -- The old AD and message, and the flips: one for each bit of the AD, of the ciphertext and of the tag, none and all of them included.
 pub record Flipped (key nonce ad input : List ℕ) : Type 0 where

@@ -1,14 +1,6 @@
 pub mod Sizes
-pub mod StartUp
-pub mod Machine
-pub mod Engine
-pub mod Filling
-pub mod AuthenticatedString
-pub mod Payload
-pub mod Refusals
+pub mod Order
 pub mod Calls
-pub mod Laws
 pub mod Demand1
 pub mod Demand2
 pub mod Demand3
-pub mod Examples

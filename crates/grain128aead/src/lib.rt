@@ -1,40 +1,34 @@
 // Grain-128AEAD, first edition: sealing and opening of whole byte strings.
-pub mod engine;
-pub mod parts;
-mod refusals;
-mod startup;
-mod strings;
+mod sizes;
 mod tag;
 
 ghost use mathlib.Core.Path.{_≡_};
-ghost use Rattle.grain128aead.specs.Refusals.{outcome};
+ghost use lib.ListN.{length};
+ghost use Rattle.refusals.specs.Outcome.{outcome};
 ghost use Rattle.grain128aead.specs.Calls as calls;
-ghost use Rattle.grain128aead.specs.Payload.{payload};
+ghost use Rattle.machine.specs.Engine.{stateOf};
+ghost use Rattle.startup.specs.Sizes.{keySize, nonceSize};
+ghost use Rattle.payload.specs.Payload.{begun, payload};
 ghost use Rattle.grain128aead.specs.Demand1.{Demand1};
 ghost use Rattle.grain128aead.specs.Demand2.{Sealing, Demand2};
 ghost use Rattle.grain128aead.specs.Demand3.{Demand3};
+use machine::engine;
+use machine::engine::Engine;
+use machine::strings;
+use refusals::Answer;
+use refusals::Check;
+use refusals::Refusal;
 
-// Why a call refuses. specs/Refusals.antt gives each case its number and the order in which they are tried.
-pub enum Refusal {
-    KeySize,
-    NonceSize,
-    AdTooLong,
-    MessageTooLong,
-    SealedTooShort,
-    OutputTooShort,
-    TagDiffers,
-}
-
-// What the rows that sizes decide come to.
-pub enum Check {
-    Passed,
-    Failed(Refusal),
-}
-
-// What a call answers: the count of bytes written, or why it refused.
-pub enum Answer {
-    Count(usize),
-    Refused(Refusal),
+// The machine where the message begins.
+fn begin(key: &[u8], nonce: &[u8], ad: &[u8]) -> Engine
+    requires { ⌜ (length (now key) ≡ keySize) × (length (now nonce) ≡ nonceSize) ⌝ }
+    ensures { λ r. ⌜ stateOf r ≡ begun (now (key .entry)) (now (nonce .entry)) (now (ad .entry)) ⌝ }
+{
+    let mut k = [0u8; 16];
+    let mut n = [0u8; 12];
+    bytes::copy(key, &mut k);
+    bytes::copy(nonce, &mut n);
+    payload::header::begin(&k, &n, ad)
 }
 
 // Seals a message: the ciphertext and then the tag, at the front of the output.
@@ -44,12 +38,12 @@ pub fn seal(key: &[u8], nonce: &[u8], ad: &[u8], message: &[u8], out: &mut [u8])
     ensures demand2 { λ r. ⌜ Sealing (now (key .entry)) (now (nonce .entry)) (now (ad .entry)) (now (message .entry)) (now (out .entry)) (outcome r (now (out .exit))) ⌝ }
 {
     let n = message.len();
-    let too_long = refusals::MESSAGE_LIMIT < n;
+    let too_long = sizes::MESSAGE_LIMIT < n;
     let no_room = out.len() < n + 8;
-    match refusals::judge(key, nonce, ad, too_long, false, no_room) {
+    match sizes::judge(key, nonce, ad, too_long, false, no_room) {
         Check::Failed(r) => Answer::Refused(r),
         Check::Passed => {
-            let begun = strings::begin(key, nonce, ad);
+            let begun = begin(key, nonce, ad);
             let done = strings::crypt_all(begun, message, out, true);
             tag::store(out, n, engine::finish(done));
             Answer::Count(n + 8)
@@ -65,16 +59,16 @@ pub fn open(key: &[u8], nonce: &[u8], ad: &[u8], input: &[u8], out: &mut [u8]) -
     ensures demand3 { λ r. ⌜ Demand3 (now (key .entry)) (now (nonce .entry)) (now (ad .entry)) (now (input .entry)) (now (out .entry)) (outcome r (now (out .exit))) ⌝ }
 {
     let n = input.len();
-    let too_long = refusals::MESSAGE_LIMIT + 8 < n;
+    let too_long = sizes::MESSAGE_LIMIT + 8 < n;
     let too_short = n < 8;
     let no_room = out.len() + 8 < n;
-    match refusals::judge(key, nonce, ad, too_long, too_short, no_room) {
+    match sizes::judge(key, nonce, ad, too_long, too_short, no_room) {
         Check::Failed(r) => Answer::Refused(r),
         Check::Passed => {
-            let ciphertext = parts::ciphertext_part(input);
-            let begun = strings::begin(key, nonce, ad);
+            let ciphertext = payload::parts::ciphertext_part(input);
+            let begun = begin(key, nonce, ad);
             let done = strings::decipher_all(begun, ciphertext);
-            if engine::finish(done) == bits::number(parts::tag_part(input)) {
+            if engine::finish(done) == bits::number(payload::parts::tag_part(input)) {
                 strings::crypt_all(begun, ciphertext, out, false);
                 Answer::Count(n - 8)
             } else {

@@ -1,6 +1,6 @@
 // Document 01's examples that are not starred.
 use crate::tally::Tally;
-use grain128aead::parts;
+use payload::parts;
 
 // The first n bytes of a slice that has them; else all of it.
 fn front(s: &[u8], n: usize) -> &[u8] {
@@ -144,10 +144,10 @@ pub fn largest(t: Tally) -> Tally {
 
 // The same job run on the machine itself, with its string bits and clocks added up byte by byte.
 fn counted(t: Tally, ad: &[u8], message: &[u8], sealed: &[u8]) -> Tally {
-    let begun = crate::machine::start(&[0x11u8; 16], &[0x22u8; 12]);
-    let length = crate::machine::absorb(begun, &[0x82, 0x10, 0x00]);
-    let data = crate::machine::absorb(crate::machine::absorb(length, ad), message);
-    let done = crate::machine::finish(data);
+    let begun = crate::counted::start(&[0x11u8; 16], &[0x22u8; 12]);
+    let length = crate::counted::absorb(begun, &[0x82, 0x10, 0x00]);
+    let data = crate::counted::absorb(crate::counted::absorb(length, ad), message);
+    let done = crate::counted::finish(data);
     let same = done.tag == bits::number(parts::tag_part(sealed));
     let t1 = crate::tally::line(t, b"largest job: the machine's tag is the sealed one", same);
     let t2 = crate::tally::line(t1, b"largest job: 294,937 string bits", done.bits == 294937);

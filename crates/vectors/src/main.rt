@@ -1,7 +1,7 @@
 // Runs the published vectors on the machine below the entry points, and document 01's unstarred examples on the calls. Prints a line
 // for each, and the counts.
+mod counted;
 mod examples;
-mod machine;
 mod published;
 mod tally;
 

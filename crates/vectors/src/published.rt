@@ -1,7 +1,7 @@
 // The vectors of source document 000's appendix. The printed streams have no coded AD length, so they are runs of the machine.
 use crate::tally::Tally;
-use grain128aead::engine;
-use grain128aead::engine::Engine;
+use machine::engine;
+use machine::engine::Engine;
 
 // Whether the first sixteen keystream bytes are those given: zeros are enciphered.
 fn keystream_is(e: Engine, expected: &[u8; 16]) -> bool {
@@ -20,7 +20,7 @@ fn keystream_is(e: Engine, expected: &[u8; 16]) -> bool {
 }
 
 pub fn run(t: Tally) -> Tally {
-    let zeros = engine::start(&[0u8; 16], &[0u8; 12]);
+    let zeros = startup::start(&[0u8; 16], &[0u8; 12]);
     let stream1 = [
         0xc8,
         0x00,
@@ -82,7 +82,7 @@ pub fn run(t: Tally) -> Tally {
         0x56,
         0x78,
     ];
-    let second = engine::start(&key, &nonce);
+    let second = startup::start(&key, &nonce);
     let stream2 = [
         0xc2,
         0xb9,

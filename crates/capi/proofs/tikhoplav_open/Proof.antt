@@ -4,8 +4,9 @@ use mathlib.Core.Path.{_∙_}
 use mir.Syntax.{w64}
 use mir.ValLaws.{toZ-ofZ}
 use borrow.Author.Needs.{needs}
-use Rattle.capi.proofs.Count.{opened-count}
-use Rattle.capi.proofs.Returned.{returned}
+use Rattle.refusals.proofs.Returned.{returned}
+use Rattle.grain128aead.specs.Calls.{opened}
+use Rattle.capi.proofs.Fits.{open-fits}
 use Rattle.capi.proofs.tikhoplav_open.Statement.{statement}
 use Rattle.capi.proofs.tikhoplav_open.Tie as tie
 
@@ -13,15 +14,17 @@ open-requires : tie.Need-open-requires
 open-requires c κs = search needs
 
 signed-requires : tie.Need-signed-requires
-signed-requires c κs =
-    let a = c .before .before .before .before .before .before .before .before .before .args in
-    opened-count (a .key .now) (a .nonce .now) (a .ad .now) (a .sealed .now) (a .out .now) _ (c .before .before .«open» .ensures .1 .1 .0)
+signed-requires c κs = search needs
 
 same-length : tie.Need-same-length
 same-length c = search needs
 
 returns : tie.Need-returns
-returns c = returned _ _ _ _ (toZ-ofZ w64 (c .signed .result) (record { sfits = c .signed .ok }) ∙ c .signed .ensures) (c .before .before .before .open .ensures .0)
+returns c =
+    let s = c .before .before .before in
+    let a = s .before .before .before .before .before .before .before .args in
+    returned _ _ (opened (a .key .now) (a .nonce .now) (a .ad .now) (a .sealed .now) (a .out .now)) _ (toZ-ofZ w64 (c .signed .result) (record { sfits = c .signed .ok }) ∙ c .signed .ensures)
+    (open-fits (a .key .now) (a .nonce .now) (a .ad .now) (a .sealed .now) (a .out .now) _ (s .«open» .ensures .1 .1 .0)) (s .«open» .ensures .0)
 
 pub tikhoplav-open-spec : {M : Type 1} → statement M
 tikhoplav-open-spec = tie.close (tie.spec open-requires signed-requires same-length returns)

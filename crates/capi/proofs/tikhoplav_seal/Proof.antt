@@ -4,8 +4,9 @@ use mathlib.Core.Path.{_∙_}
 use mir.Syntax.{w64}
 use mir.ValLaws.{toZ-ofZ}
 use borrow.Author.Needs.{needs}
-use Rattle.capi.proofs.Count.{sealed-count}
-use Rattle.capi.proofs.Returned.{returned}
+use Rattle.refusals.proofs.Returned.{returned}
+use Rattle.grain128aead.specs.Calls.{sealed}
+use Rattle.capi.proofs.Fits.{seal-fits}
 use Rattle.capi.proofs.tikhoplav_seal.Statement.{statement}
 use Rattle.capi.proofs.tikhoplav_seal.Tie as tie
 
@@ -13,15 +14,17 @@ seal-requires : tie.Need-seal-requires
 seal-requires c κs = search needs
 
 signed-requires : tie.Need-signed-requires
-signed-requires c κs =
-    let a = c .before .before .before .before .before .before .before .before .before .args in
-    sealed-count (a .key .now) (a .nonce .now) (a .ad .now) (a .message .now) (a .out .now) _ (c .before .before .seal .ensures .1 .1)
+signed-requires c κs = search needs
 
 same-length : tie.Need-same-length
 same-length c = search needs
 
 returns : tie.Need-returns
-returns c = returned _ _ _ _ (toZ-ofZ w64 (c .signed .result) (record { sfits = c .signed .ok }) ∙ c .signed .ensures) (c .before .before .before .seal .ensures .0)
+returns c =
+    let s = c .before .before .before in
+    let a = s .before .before .before .before .before .before .before .args in
+    returned _ _ (sealed (a .key .now) (a .nonce .now) (a .ad .now) (a .message .now) (a .out .now)) _ (toZ-ofZ w64 (c .signed .result) (record { sfits = c .signed .ok }) ∙ c .signed .ensures)
+    (seal-fits (a .key .now) (a .nonce .now) (a .ad .now) (a .message .now) (a .out .now) _ (s .seal .ensures .1 .1)) (s .seal .ensures .0)
 
 pub tikhoplav-seal-spec : {M : Type 1} → statement M
 tikhoplav-seal-spec = tie.close (tie.spec seal-requires signed-requires same-length returns)

@@ -10,17 +10,17 @@ use borrow.Author.Tests.{lt-ltb, le-ltb}
 use lib.Dec.{ltb}
 use lib.ListN.{length}
 use Rattle.bits.specs.Bytes.{Bytes}
-use Rattle.grain128aead.specs.declared.Check.{Check}
-use Rattle.grain128aead.specs.Sizes.{tagSize, messageLimit}
-use Rattle.grain128aead.specs.Refusals.{Outcome}
+use Rattle.refusals.specs.declared.Check.{Check}
+use Rattle.refusals.specs.Outcome.{Outcome}
+use Rattle.payload.specs.Sizes.{tagSize}
+use Rattle.grain128aead.specs.Sizes.{messageLimit}
 use Rattle.grain128aead.specs.Calls.{openingRow, recovered, opened}
 use Rattle.grain128aead.specs.Demand1.{Demand1}
 use Rattle.grain128aead.specs.Demand2.{Demand2}
 use Rattle.grain128aead.specs.Demand3.{Demand3}
 use Rattle.grain128aead.proofs.Demand2.{demand1-opening, demand2}
 use Rattle.grain128aead.proofs.Demand3.{demand3}
-use Rattle.grain128aead.proofs.Entry.{openingSizes, OpenChecked, Compared, open-failed, open-clear, open-reaches, open-room, open-passed, open-differs}
-use Rattle.grain128aead.proofs.Payload.{lengths}
+use Rattle.grain128aead.proofs.Entry.{openingSizes, OpenChecked, Compared, open-failed, open-clear, open-reaches, open-passed, open-differs}
 use Rattle.grain128aead.proofs.Settled.{sizesOf}
 use Rattle.grain128aead.proofs.open.Statement.{statement}
 use Rattle.grain128aead.proofs.open.Tie as tie
@@ -72,17 +72,6 @@ compared n =
       spelled = rw (n .before .tag-part .ensures) at (n .number .ensures);
     }
 
-fits : (p : tie.After-ciphertext-part) → length (p .ciphertext-part .result .now) ≤ length (p .before .before .before .before .before .before .before .before .before .args .out .now)
-fits p =
-    let j = p .before .before .before in
-    let a = j .before .before .before .before .before .before .args in
-    omega (
-      arith,
-      ap length (p .ciphertext-part .ensures),
-      lengths (a .key .now) (a .nonce .now) (a .ad .now) [] (a .input .now) .ciphertextPart (open-reaches (checked j) (p .before .enum-told .given .1)),
-      open-room (checked j) (p .before .enum-told .given .1),
-    )
-
 add-too-long : tie.Need-add-too-long
 add-too-long c = search needs
 
@@ -104,7 +93,7 @@ ciphertext-part-requires c κs = search needs
 begin-requires : tie.Need-begin-requires
 begin-requires c κs =
     let h = open-clear (checked (c .before .before .before)) (c .before .enum-told .given .1) in
-    (h .keySized, h .nonceSized, h .adFits)
+    (h .keySized, h .nonceSized)
 
 decipher-all-requires : tie.Need-decipher-all-requires
 decipher-all-requires c κs = search needs
@@ -119,7 +108,7 @@ number-requires : tie.Need-number-requires
 number-requires c κs = search needs
 
 crypt-all-requires : tie.Need-crypt-all-requires
-crypt-all-requires c κs = fits (c .before .before .before .before .before .before .before)
+crypt-all-requires c κs = search needs
 
 sub-t26 : tie.Need-sub-t26
 sub-t26 c =

@@ -5,9 +5,9 @@ use mathlib.Core.List.{List}
 use Prim.Native.Nat.{ℕ}
 use native.Mathlib.Omega.{arith}
 use borrow.Author.Needs.{needs}
+use Rattle.refusals.specs.Outcome.{Outcome}
 use Rattle.grain128aead.specs.Sizes.{messageLimit}
-use Rattle.grain128aead.specs.Payload.{payload}
-use Rattle.grain128aead.specs.Refusals.{Outcome}
+use Rattle.payload.specs.Payload.{payload}
 use Rattle.grain128aead.specs.Calls.{sealingRow, sealed}
 use Rattle.grain128aead.specs.Demand1.{Demand1}
 use Rattle.grain128aead.specs.Demand2.{Sealing}
@@ -49,10 +49,10 @@ enum-told c = search needs
 begin-requires : tie.Need-begin-requires
 begin-requires c κs =
     let h = seal-clear (checked (c .before .before)) (c .enum-told .given .1) in
-    (h .keySized, h .nonceSized, h .adFits)
+    (h .keySized, h .nonceSized)
 
 crypt-all-requires : tie.Need-crypt-all-requires
-crypt-all-requires c κs = omega (arith, seal-room (checked (c .before .before .before .before)) (c .before .before .enum-told .given .1))
+crypt-all-requires c κs = search needs
 
 finish-requires : tie.Need-finish-requires
 finish-requires c κs = search needs

@@ -1,0 +1,44 @@
+// The limits, and the rows that sizes decide, in document 01's order.
+ghost use mathlib.Core.Path.{_≡_};
+ghost use mathlib.Core.Bool.{false};
+ghost use Rattle.refusals.specs.Refusals as refusals;
+ghost use Rattle.grain128aead.specs.Order.{sizeRefusals};
+ghost use Rattle.grain128aead.specs.Calls.{rows};
+use refusals::Check;
+use refusals::Refusal;
+
+pub const AD_LIMIT: usize = 4096;
+
+pub const MESSAGE_LIMIT: usize = 32768;
+
+// The first of these rows that applies. Whether rows 4 to 6 apply is the caller's to say.
+pub fn judge(
+    key: &[u8],
+    nonce: &[u8],
+    ad: &[u8],
+    too_long: bool,
+    too_short: bool,
+    no_room: bool,
+) -> Check
+    ensures { λ r. ⌜ r ≡ refusals.check sizeRefusals (rows (now (key .entry)) (now (nonce .entry)) (now (ad .entry)) «too_long» «too_short» «no_room» false) ⌝ }
+{
+    if key.len() != 16 {
+        return Check::Failed(Refusal::KeySize);
+    }
+    if nonce.len() != 12 {
+        return Check::Failed(Refusal::NonceSize);
+    }
+    if AD_LIMIT < ad.len() {
+        return Check::Failed(Refusal::AdTooLong);
+    }
+    if too_long {
+        return Check::Failed(Refusal::MessageTooLong);
+    }
+    if too_short {
+        return Check::Failed(Refusal::SealedTooShort);
+    }
+    if no_room {
+        return Check::Failed(Refusal::OutputTooShort);
+    }
+    Check::Passed
+}

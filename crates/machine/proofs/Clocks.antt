@@ -1,0 +1,66 @@
+-- The machine's keystream and register bits by their clock numbers, from any starting state.
+-- Assumes nothing.
+use mathlib.Core.Path.{_≡_, refl, sym, ap, _∙_}
+use mathlib.Core.Bool.{Bool, false}
+use mathlib.Core.List.{List, [], _∷_}
+use Prim.Native.Nat.{ℕ, zero, suc, _+_, _*_, _<_}
+use native.Mathlib.Omega.{arith}
+use native.Mathlib.Nat.{le-of-suc-le-suc, not-suc-le-zero}
+use native.Mathlib.Numerals.{add-one}
+use lib.ListN.{length, getD}
+use Rattle.bits.specs.Bit.{_⊻_}
+use Rattle.bits.specs.Strings.{_⊞_, shift}
+use Rattle.bits.specs.Times.{times}
+use Rattle.bits.proofs.Sum.{getD-sum}
+use Rattle.bits.proofs.Times.{times-last, times-add}
+use Rattle.preoutput.specs.Algebra.{single}
+use Rattle.preoutput.specs.Generator.{Generator, preoutput, plain, everySecond}
+use Rattle.authenticator.specs.Authenticator.{absorb, add, move}
+use Rattle.machine.specs.Machine.{State, keystreamBit, step, run}
+use Rattle.machine.specs.Laws.{preoutputAt, Clocks, Keystream}
+use Rattle.machine.proofs.Machine.{run-append, crypt-sum}
+
+-- k plain clocks.
+abbrev clocked : ℕ → Generator Bool → Generator Bool
+clocked k g = times k (plain single) g
+
+two-more : (n : ℕ) → 2 * suc n ≡ suc (suc (2 * n))
+two-more n = omega arith
+
+pub run-clocked : (st : State) (s : List Bool) → run st s .generator ≡ clocked (2 * length s) (st .generator)
+unfolding run step times
+run-clocked st [] = refl
+run-clocked st (m ∷ s) = run-clocked (step st m) s ∙ ap (λ (k : ℕ). clocked k (st .generator)) (sym (two-more (length s)))
+
+pub clocks : (st : State) (s : List Bool) (m : Bool) → Clocks st s m
+unfolding keystreamBit run step absorb add move preoutputAt
+clocks st s m = record {
+  keystream = ap (preoutput single) (run-clocked st s);
+  register =
+      ap (λ (after : State). after .authenticator .register) (run-append st s (m ∷ []))
+      ∙ ap (shift (run st s .authenticator .register))
+      (ap (λ (g : Generator Bool). preoutput single (plain single g)) (run-clocked st s)
+      ∙ ap (preoutput single) (times-last (plain single) (2 * length s) (st .generator))
+      ∙ ap (λ (k : ℕ). preoutput single (clocked k (st .generator))) (sym (add-one (2 * length s))));
+}
+
+keystream-at : (n j : ℕ) (g : Generator Bool) → j < n → getD (everySecond single n g) j false ≡ preoutput single (clocked (2 * j) g)
+unfolding everySecond times
+keystream-at zero j g h = absurd (not-suc-le-zero h)
+keystream-at (suc n) zero g h = refl
+keystream-at (suc n) (suc j) g h =
+    keystream-at n j (plain single (plain single g)) (le-of-suc-le-suc h) ∙ ap (λ (k : ℕ). preoutput single (clocked k g)) (sym (two-more j))
+
+pub keystream : Keystream
+unfolding preoutputAt
+keystream sealing st before s j h =
+    ap (λ (r : List Bool). getD r j false) (crypt-sum sealing (run st before) s)
+    ∙ getD-sum s (everySecond single (length s) (run st before .generator)) j
+    ∙ ap (λ (b : Bool). getD s j false ⊻ b)
+    (keystream-at (length s) j (run st before .generator) h
+    ∙ ap (λ (g : Generator Bool). preoutput single (clocked (2 * j) g)) (run-clocked st before)
+    ∙ ap (preoutput single) (times-add (plain single) (2 * length before) (2 * j) (st .generator))
+    ∙ ap (λ (k : ℕ). preoutput single (clocked k (st .generator))) (together (length before)))
+  where
+    together : (i : ℕ) → 2 * i + 2 * j ≡ 2 * (i + j)
+    together i = omega arith

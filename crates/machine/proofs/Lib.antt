@@ -1,0 +1,6 @@
+pub mod Machine
+pub mod Clocks
+pub mod Accumulator
+pub mod Cutting
+pub mod Bytewise
+pub mod OverBytes

@@ -1,0 +1,13 @@
+-- The starred examples, by computation on the definitions.
+-- Assumes nothing.
+use mathlib.Core.Path.{refl}
+use Rattle.bits.specs.Bytes.{word, bits}
+use Rattle.preoutput.specs.Generator.{preoutput, clock}
+use Rattle.authenticator.specs.Authenticator.{absorb, add, move}
+use Rattle.startup.specs.StartUp.{loaded}
+use Rattle.payload.specs.AuthenticatedString.{codedLength, header, authenticated}
+use Rattle.payload.specs.Examples.{Starred}
+
+pub starred : Starred
+unfolding codedLength header authenticated bits word loaded preoutput clock absorb add move
+starred = refl

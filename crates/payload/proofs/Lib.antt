@@ -1,0 +1,5 @@
+pub mod AuthenticatedString
+pub mod Payload
+pub mod Machine
+pub mod Flips
+pub mod Examples

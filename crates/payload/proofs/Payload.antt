@@ -1,0 +1,140 @@
+-- Payloads: the lengths of their pieces, the two parts of a sealed input, and the ciphertext as the message flipped by the keystream.
+-- Assumes nothing.
+use mathlib.Core.Path.{_≡_, refl, sym, ap, ap₂, _∙_}
+use mathlib.Core.Bool.{Bool, true, false}
+use mathlib.Core.List.{List, [], _++_}
+use Prim.Native.Nat.{ℕ, _+_, _-_, _*_, _≤_, _<_}
+use native.Mathlib.Omega.{arith}
+use borrow.Author.Tests.{lt-ltb, le-ltb}
+use lib.ListN.{length, take, drop, length-append, take-append-drop, length-take, length-drop}
+use lib.Seq.{take-at, drop-at}
+use Rattle.bits.specs.Bytes.{Bytes, bits, bytes, flip}
+use Rattle.bits.specs.Strings.{_⊞_}
+use Rattle.bits.proofs.Packing.{length-bits, length-bytes, bytes-are-bytes, Bytes-take}
+use Rattle.bits.proofs.Flip.{length-flip, flip-twice}
+use Rattle.preoutput.specs.Algebra.{single}
+use Rattle.preoutput.specs.Generator.{Generator, everySecond}
+use Rattle.preoutput.proofs.Streams.{length-everySecond}
+use Rattle.machine.specs.Machine.{encipher, decipher}
+use Rattle.machine.proofs.Machine.{run-generator}
+use Rattle.machine.proofs.OverBytes.{cryptBytes, bits-cryptBytes, length-cryptBytes, cryptBytes-flip}
+use Rattle.startup.specs.StartUp.{initialised}
+use Rattle.payload.specs.Sizes.{tagSize}
+use Rattle.payload.specs.AuthenticatedString.{codedLength, header}
+use Rattle.payload.specs.Payload.{begun, ciphertext, deciphered, tag, payload, ciphertextPart, tagPart}
+use Rattle.payload.specs.Laws.{Lengths}
+use Rattle.payload.proofs.AuthenticatedString.{length-authenticated}
+
+-- ---- the two parts of a sealed input
+
+pub ciphertextPart-is : (input : List ℕ) → tagSize ≤ length input → ciphertextPart input ≡ take (length input - tagSize) input
+unfolding ciphertextPart
+ciphertextPart-is input h = simp (le-ltb (length input) tagSize h)
+
+pub tagPart-is : (input : List ℕ) → tagSize ≤ length input → tagPart input ≡ drop (length input - tagSize) input
+unfolding tagPart
+tagPart-is input h = simp (le-ltb (length input) tagSize h)
+
+pub ciphertextPart-short : (input : List ℕ) → length input < tagSize → ciphertextPart input ≡ []
+unfolding ciphertextPart
+ciphertextPart-short input h = simp (lt-ltb (length input) tagSize h)
+
+pub tagPart-short : (input : List ℕ) → length input < tagSize → tagPart input ≡ []
+unfolding tagPart
+tagPart-short input h = simp (lt-ltb (length input) tagSize h)
+
+pub parts-join : (input : List ℕ) → tagSize ≤ length input → ciphertextPart input ++ tagPart input ≡ input
+parts-join input h = ap₂ _++_ (ciphertextPart-is input h) (tagPart-is input h) ∙ take-append-drop (length input - tagSize) input
+
+module _ (c t : List ℕ) (sized : length t ≡ tagSize) where
+  joined-length : length c ≡ length (c ++ t) - tagSize
+  joined-length = omega (arith, length-append c t)
+
+  pub ciphertextPart-joined : ciphertextPart (c ++ t) ≡ c
+  ciphertextPart-joined = ciphertextPart-is (c ++ t) (omega (arith, length-append c t)) ∙ take-at c t (length (c ++ t) - tagSize) joined-length
+
+  pub tagPart-joined : tagPart (c ++ t) ≡ t
+  tagPart-joined = tagPart-is (c ++ t) (omega (arith, length-append c t)) ∙ drop-at c t (length (c ++ t) - tagSize) joined-length
+
+pub ciphertextPart-bytes : (input : List ℕ) → tagSize ≤ length input → Bytes input → Bytes (ciphertextPart input)
+ciphertextPart-bytes input h b = rw (ciphertextPart-is input h) (Bytes-take (length input - tagSize) input b)
+
+-- ---- lengths
+
+module _ (key nonce ad : List ℕ) where
+  pub length-ciphertext : (message : List ℕ) → length (ciphertext key nonce ad message) ≡ length message
+  unfolding ciphertext
+  length-ciphertext message = length-bytes (length message) (encipher (begun key nonce ad) (bits message))
+
+  pub ciphertext-bits : (message : List ℕ) → bits (ciphertext key nonce ad message) ≡ encipher (begun key nonce ad) (bits message)
+  unfolding ciphertext cryptBytes
+  ciphertext-bits message = bits-cryptBytes true (begun key nonce ad) message
+
+  pub deciphered-bits : (c : List ℕ) → bits (deciphered key nonce ad c) ≡ decipher (begun key nonce ad) (bits c)
+  unfolding deciphered cryptBytes
+  deciphered-bits c = bits-cryptBytes false (begun key nonce ad) c
+
+  pub length-deciphered : (c : List ℕ) → length (deciphered key nonce ad c) ≡ length c
+  unfolding deciphered
+  length-deciphered c = length-bytes (length c) (decipher (begun key nonce ad) (bits c))
+
+  pub deciphered-bytes : (c : List ℕ) → Bytes (deciphered key nonce ad c)
+  unfolding deciphered
+  deciphered-bytes c = bytes-are-bytes (length c) (decipher (begun key nonce ad) (bits c))
+
+  pub length-tag : (message : List ℕ) → length (tag key nonce ad message) ≡ tagSize
+  unfolding tag
+  length-tag message = length-bytes tagSize _
+
+  pub length-payload : (message : List ℕ) → length (payload key nonce ad message) ≡ length message + tagSize
+  unfolding payload
+  length-payload message = length-append (ciphertext key nonce ad message) (tag key nonce ad message) ∙ ap₂ _+_ (length-ciphertext message) (length-tag message)
+
+  pub lengths : (message input : List ℕ) → Lengths key nonce ad message input
+  lengths message input = record {
+    string = length-authenticated ad message;
+    ciphertext = length-ciphertext message;
+    tag = length-tag message;
+    payload = length-payload message;
+    ciphertextPart = λ h. ap length (ciphertextPart-is input h) ∙ omega (arith, length-take (length input - tagSize) input);
+    tagPart = λ h. ap length (tagPart-is input h) ∙ omega (arith, length-drop (length input - tagSize) input);
+  }
+
+  -- ---- the keystream under the message
+
+  -- The keystream bits under n message bytes.
+  unfoldable pub under : ℕ → List Bool
+  under n = everySecond single (8 * n) (begun key nonce ad .generator)
+
+  pub length-under : (n : ℕ) → length (under n) ≡ 8 * n
+  unfolding under
+  length-under n = length-everySecond (begun key nonce ad .generator) (8 * n)
+
+  pub ciphertext-flip : (message : List ℕ) → ciphertext key nonce ad message ≡ flip message (under (length message))
+  unfolding ciphertext cryptBytes under
+  ciphertext-flip message = cryptBytes-flip true (begun key nonce ad) message
+
+  pub deciphered-flip : (c : List ℕ) → deciphered key nonce ad c ≡ flip c (under (length c))
+  unfolding deciphered cryptBytes under
+  deciphered-flip c = cryptBytes-flip false (begun key nonce ad) c
+
+  flip-under-twice : (s : List ℕ) → Bytes s → flip (flip s (under (length s))) (under (length (flip s (under (length s))))) ≡ s
+  flip-under-twice s h = ap (λ (n : ℕ). flip (flip s (under (length s))) (under n)) (length-flip s (under (length s))) ∙ flip-twice s (under (length s)) h (length-under (length s))
+
+  pub deciphered-ciphertext : (message : List ℕ) → Bytes message → deciphered key nonce ad (ciphertext key nonce ad message) ≡ message
+  deciphered-ciphertext message h = ap (deciphered key nonce ad) (ciphertext-flip message) ∙ deciphered-flip (flip message (under (length message))) ∙ flip-under-twice message h
+
+  pub ciphertext-deciphered : (c : List ℕ) → Bytes c → ciphertext key nonce ad (deciphered key nonce ad c) ≡ c
+  ciphertext-deciphered c h = ap (ciphertext key nonce ad) (deciphered-flip c) ∙ ciphertext-flip (flip c (under (length c))) ∙ flip-under-twice c h
+
+length-header : (ad : List ℕ) → length (header ad) ≡ 8 * (length (codedLength (length ad)) + length ad)
+unfolding header
+length-header ad = omega (arith, length-append (bits (codedLength (length ad))) (bits ad), length-bits (codedLength (length ad)), length-bits ad)
+
+-- The keystream under the message does not see the bits of the AD.
+pub under-same : (key nonce ad ad′ : List ℕ) (n : ℕ) → length ad ≡ length ad′ → under key nonce ad n ≡ under key nonce ad′ n
+unfolding under begun
+under-same key nonce ad ad′ n e =
+    ap (λ (g : Generator Bool). everySecond single (8 * n) g)
+    (run-generator (initialised key nonce) (initialised key nonce) (header ad) (header ad′) refl
+    (length-header ad ∙ ap (λ (k : ℕ). 8 * (length (codedLength k) + k)) e ∙ sym (length-header ad′)))

@@ -1,0 +1,80 @@
+-- Laws of payloads: the lengths of every piece, what the authenticated string tells, the machine's laws under a key and a nonce, and what
+-- flips do to the tag.
+use mathlib.Core.Path.{_≡_}
+use mathlib.Core.Bool.{Bool, true, false}
+use mathlib.Core.List.{List, [], _∷_, _++_}
+use Prim.Native.Nat.{ℕ, _+_, _-_, _*_, _≤_, _<_}
+use lib.ListN.{length, getD}
+use Rattle.bits.specs.Bytes.{Bytes, bits, flip}
+use Rattle.bits.specs.Bit.{_⊻_}
+use Rattle.bits.specs.Strings.{_⊞_, shift}
+use Rattle.authenticator.specs.ClosedForm.{registersAt}
+use Rattle.machine.specs.Machine.{keystreamBit, run}
+use Rattle.machine.specs.Laws.{Sized}
+use Rattle.machine.specs.Laws as machine
+use Rattle.startup.specs.Sizes.{keySize, nonceSize}
+use Rattle.startup.specs.StartUp.{initialised}
+use Rattle.payload.specs.Sizes.{tagSize}
+use Rattle.payload.specs.AuthenticatedString.{codedLength, header, authenticated}
+use Rattle.payload.specs.Payload.{ciphertext, tag, payload, ciphertextPart, tagPart}
+
+pub record Lengths (key nonce ad message input : List ℕ) : Type 0 where
+  pub string : length (authenticated ad message) ≡ 8 * (length (codedLength (length ad)) + length ad + length message) + 1
+  pub ciphertext : length (ciphertext key nonce ad message) ≡ length message
+  pub tag : length (tag key nonce ad message) ≡ tagSize
+  pub payload : length (payload key nonce ad message) ≡ length message + tagSize
+  pub ciphertextPart : tagSize ≤ length input → length (ciphertextPart input) ≡ length input - tagSize
+  pub tagPart : tagSize ≤ length input → length (tagPart input) ≡ tagSize
+
+-- Pairs of AD and message, each AD with a length of two bytes at most, that make the same authenticated string are the same pair.
+abbrev pub Unambiguous : Type 0
+Unambiguous =
+    (ad message ad′ message′ : List ℕ) → Bytes ad → Bytes message → Bytes ad′ → Bytes message′
+    → length ad < 65536 → length ad′ < 65536
+    → authenticated ad message ≡ authenticated ad′ message′ → (ad ≡ ad′) × (message ≡ message′)
+
+-- Whatever the string, the machine's registers keep their sizes.
+abbrev pub States : Type 0
+States = (key nonce : List ℕ) (s : List Bool) → length key ≡ keySize → length nonce ≡ nonceSize → Sized 64 (run (initialised key nonce) s)
+
+-- The pre-output of clock t, from clock 384 on.
+unfoldable pub preoutputAt : (key nonce : List ℕ) → (t : ℕ) → Bool
+preoutputAt key nonce t = machine.preoutputAt (initialised key nonce) (t - 384)
+
+-- With i bits of the string behind it, the machine gives the pre-output of clock 384 + 2i as the keystream bit, and at the next bit its
+-- register takes that of clock 384 + 2i + 1.
+pub record Clocks (key nonce : List ℕ) (s : List Bool) (m : Bool) : Type 0 where
+  pub keystream : keystreamBit (run (initialised key nonce) s) ≡ preoutputAt key nonce (384 + 2 * length s)
+  pub register :
+      run (initialised key nonce) (s ++ (m ∷ [])) .authenticator .register
+      ≡ shift (run (initialised key nonce) s .authenticator .register) (preoutputAt key nonce (384 + 2 * length s + 1))
+
+-- A message bit is enciphered with the keystream bit of its own position in the string.
+abbrev pub Enciphered : Type 0
+Enciphered =
+    (key nonce ad message : List ℕ) (j : ℕ) → j < 8 * length message
+    → getD (bits (ciphertext key nonce ad message)) j false ≡ getD (bits message) j false ⊻ preoutputAt key nonce (384 + 2 * (length (header ad) + j))
+
+-- The register at position i: its content just before bit i is used, in the machine under a key and a nonce.
+abbrev pub registerAt : (key nonce : List ℕ) → (i : ℕ) → List Bool
+registerAt key nonce = machine.registerAt (initialised key nonce)
+
+-- What a string adds to the accumulator is the registers at the positions whose bit is 1.
+abbrev pub ClosedForm : Type 0
+ClosedForm =
+    (key nonce : List ℕ) (s : List Bool) → length key ≡ keySize → length nonce ≡ nonceSize
+    → run (initialised key nonce) s .authenticator .accumulator
+    ≡ initialised key nonce .authenticator .accumulator ⊞ registersAt 64 (registerAt key nonce) 0 s
+
+-- The exclusive-or of the registers at the flipped data positions. The data, first the AD and then the message, begins after the coded
+-- length; a flipped ciphertext bit has its message bit's position.
+unfoldable pub flippedRegisters : (key nonce ad : List ℕ) → (inAd inCiphertext : List Bool) → List Bool
+flippedRegisters key nonce ad inAd inCiphertext =
+    registersAt 64 (registerAt key nonce) (8 * length (codedLength (length ad))) (inAd ++ inCiphertext)
+
+-- Flips in the AD and the message, one for each of their bits, flip the tag by the registers at the flipped data positions.
+abbrev pub TagFlips : Type 0
+TagFlips =
+    (key nonce ad message : List ℕ) (inAd inMessage : List Bool) → length key ≡ keySize → length nonce ≡ nonceSize
+    → length inAd ≡ 8 * length ad → length inMessage ≡ 8 * length message
+    → tag key nonce (flip ad inAd) (flip message inMessage) ≡ flip (tag key nonce ad message) (flippedRegisters key nonce ad inAd inMessage)

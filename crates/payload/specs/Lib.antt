@@ -1,0 +1,5 @@
+pub mod Sizes
+pub mod AuthenticatedString
+pub mod Payload
+pub mod Laws
+pub mod Examples

@@ -1,0 +1,57 @@
+// Answers and refusals, and the signed number that an answer is in C.
+ghost use mathlib.Core.Path.{_≡_};
+ghost use Rattle.refusals.specs.Refusals as refusals;
+ghost use Rattle.refusals.specs.Signed.{signedOf, capped};
+
+// Why a call refuses. specs/Refusals.antt gives each case its number.
+pub enum Refusal {
+    KeySize,
+    NonceSize,
+    AdTooLong,
+    MessageTooLong,
+    SealedTooShort,
+    OutputTooShort,
+    TagDiffers,
+}
+
+// What some rows of a call come to.
+pub enum Check {
+    Passed,
+    Failed(Refusal),
+}
+
+// What a call answers: the count of bytes written, or why it refused.
+pub enum Answer {
+    Count(usize),
+    Refused(Refusal),
+}
+
+pub fn number(r: Refusal) -> u8
+    ensures { λ n. ⌜ n ≡ refusals.number r ⌝ }
+{
+    match r {
+        Refusal::KeySize => 1,
+        Refusal::NonceSize => 2,
+        Refusal::AdTooLong => 3,
+        Refusal::MessageTooLong => 4,
+        Refusal::SealedTooShort => 5,
+        Refusal::OutputTooShort => 6,
+        Refusal::TagDiffers => 7,
+    }
+}
+
+// The count, or minus the number of the refusal. A count past the largest signed number is that number.
+pub fn signed(a: Answer) -> i64
+    ensures { λ n. ⌜ n ≡ signedOf (capped a) ⌝ }
+{
+    match a {
+        Answer::Count(n) => {
+            if n < 0x8000_0000_0000_0000 {
+                n as i64
+            } else {
+                0x7fff_ffff_ffff_ffff
+            }
+        }
+        Answer::Refused(r) => -(number(r) as i64),
+    }
+}

@@ -1,0 +1,4 @@
+pub mod Loaded
+pub mod Sizes
+pub mod Filled
+pub mod Initialised

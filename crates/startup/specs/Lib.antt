@@ -1,0 +1,4 @@
+pub mod Sizes
+pub mod StartUp
+pub mod Laws
+pub mod Filling

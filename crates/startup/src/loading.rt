@@ -1,0 +1,40 @@
+// The key and the nonce, loaded into the registers.
+ghost use mathlib.Core.Path.{_≡_};
+ghost use Prim.Native.Nat.{_+_, _≤_};
+ghost use mathlib.Core.Bool.{true, false};
+ghost use mathlib.Core.List.{_∷_, [], _++_};
+ghost use lib.ListN.{length, take, drop, replicate};
+ghost use Rattle.bits.specs.Bytes.{word, bits};
+ghost use Rattle.preoutput.specs.Words.{generatorOf};
+ghost use Rattle.startup.specs.Sizes.{keySize, nonceSize};
+ghost use Rattle.startup.specs.StartUp.{loaded};
+use preoutput::Registers;
+
+// Eight bytes as a word.
+fn word_at(s: &[u8], at: usize) -> u64
+    requires { ⌜ at + 8 ≤ length (now s) ⌝ }
+    ensures { λ r. ⌜ word 64 r ≡ bits (take 8 (drop at (now (s .entry)))) ⌝ }
+{
+    let end = at + 8;
+    bits::number(&s[at..end])
+}
+
+// The last four bytes of the nonce, 31 ones and a zero.
+fn last_word(nonce: &[u8]) -> u64
+    requires { ⌜ length (now nonce) ≡ nonceSize ⌝ }
+    ensures { λ r. ⌜ word 64 r ≡ bits (take 4 (drop 8 (now (nonce .entry)))) ++ (replicate 31 true ++ (false ∷ [])) ⌝ }
+{
+    (bits::number(&nonce[8..12]) << 32) | 0xffff_fffe
+}
+
+pub fn load(key: &[u8], nonce: &[u8]) -> Registers
+    requires { ⌜ (length (now key) ≡ keySize) × (length (now nonce) ≡ nonceSize) ⌝ }
+    ensures { λ r. ⌜ generatorOf r ≡ loaded (now (key .entry)) (now (nonce .entry)) ⌝ }
+{
+    Registers {
+        lfsr0: word_at(nonce, 0),
+        lfsr1: last_word(nonce),
+        nfsr0: word_at(key, 0),
+        nfsr1: word_at(key, 8),
+    }
+}
