@@ -1,11 +1,11 @@
 -- Cutting commutes with what an authenticator does.
 -- Assumes nothing.
-use mathlib.Core.Path.{_≡_, refl, sym, ap, ap₂, _∙_}
+use mathlib.Core.Path.{_≡_, refl, sym, ap, _∙_}
 use mathlib.Core.Bool.{Bool, true, false}
 use mathlib.Core.List.{List, [], _∷_}
 use Prim.Native.Nat.{ℕ, suc, _-_, _<_}
 use native.Mathlib.Omega.{arith}
-use lib.ListN.{length, drop, length-drop}
+use lib.ListN.{drop, length-drop}
 use Rattle.bits.specs.Bytes.{word}
 use Rattle.bits.specs.Strings.{_⊞_}
 use Rattle.bits.proofs.Shift.{drop-shift}

@@ -58,10 +58,6 @@ bytes-append (suc m) n s t e =
     ∙ ap₂ (λ (p q : List Bool). value p ∷ bytes (m + n) q) (take-append-le 8 s t (omega arith)) (drop-append-le 8 s t (omega arith))
     ∙ ap (λ (r : List ℕ). value (take 8 s) ∷ r) (bytes-append m n (drop 8 s) t (omega (arith, length-drop 8 s)))
 
--- Bytes that are packed alike were the same bits.
-pub bytes-injective : (n : ℕ) (s t : List Bool) → length s ≡ 8 * n → length t ≡ 8 * n → bytes n s ≡ bytes n t → s ≡ t
-bytes-injective n s t hs ht e = sym (bits-bytes n s hs) ∙ ap bits e ∙ bits-bytes n t ht
-
 pub bytes-are-bytes : (n : ℕ) (s : List Bool) → Bytes (bytes n s)
 unfolding bytes
 bytes-are-bytes zero s i = lit< tt

@@ -5,7 +5,6 @@ use mathlib.Core.List.{List}
 use Prim.Native.Nat.{ℕ, _+_, _^_, _<_}
 use native.Mathlib.Omega.{arith}
 use lib.Dec.{lit<}
-use lib.ListN.{length}
 use Rattle.refusals.specs.Outcome.{Outcome}
 use Rattle.refusals.specs.Signed.{capped}
 use Rattle.refusals.proofs.Returned.{outcome-fits}

@@ -1,36 +1,34 @@
--- The order of sealing and opening: its numbers, and that every refusal stands in it.
+-- Demand 1 for the rows of sealing or opening: the order, and that no row stands outside it.
 -- Assumes nothing.
-use mathlib.Core.Path.{refl}
-use mathlib.Core.Bool.{Bool}
-use mathlib.Core.List.{List, [], _∷_, List·Memᴰ, List·Memᴰ·head, List·Memᴰ·tail}
-use Prim.Native.Nat.{ℕ, zero, suc, _<_}
-use native.Mathlib.Nat.{le-of-suc-le-suc, not-suc-le-zero}
-use lib.Dec.{lit<}
-use lib.ListN.{length, getD}
+use mathlib.Core.Path.{_≡_, refl, sym, subst}
+use mathlib.Core.Bool.{Bool, false}
+use mathlib.Core.List.{List}
+use Prim.Native.Nat.{ℕ}
 use Rattle.refusals.specs.declared.Refusal.{Refusal}
-use Rattle.refusals.specs.declared.Refusal.the-variants.{KeySize, NonceSize, AdTooLong, MessageTooLong, SealedTooShort, OutputTooShort, TagDiffers}
-use Rattle.refusals.specs.Outcome.{Outcome}
+use Rattle.refusals.specs.Outcome.{judged}
+use Rattle.refusals.specs.Demand1.{Clear}
+use Rattle.refusals.proofs.Demand1 as anyCall
+use Rattle.refusals.proofs.Rows.{no-other}
 use Rattle.grain128aead.specs.Order.{sizeRefusals, order}
-use Rattle.grain128aead.specs.Demand1.{Numbered, Demand1, Complete, Unrefused}
+use Rattle.grain128aead.specs.Calls.{table, rows}
+use Rattle.grain128aead.specs.Demand1.{Numbered, Tabled, Demand1}
 
 pub numbered : Numbered
 unfolding order sizeRefusals
 numbered = refl
 
-member : (k : ℕ) (rs : List Refusal) (d : Refusal) → k < length rs → List·Memᴰ (getD rs k d) rs
-member k [] d h = absurd (not-suc-le-zero h)
-member zero (r ∷ rs) d h = List·Memᴰ·head refl
-member (suc k) (r ∷ rs) d h = List·Memᴰ·tail (member k rs d (le-of-suc-le-suc h))
+pub tabled : Tabled
+unfolding order sizeRefusals table
+tabled key nonce ad tooLong tooShort noRoom wrongTag = refl
 
-pub complete : Complete
-unfolding order sizeRefusals
-complete KeySize = member 0 order KeySize (lit< tt)
-complete NonceSize = member 1 order NonceSize (lit< tt)
-complete AdTooLong = member 2 order AdTooLong (lit< tt)
-complete MessageTooLong = member 3 order MessageTooLong (lit< tt)
-complete SealedTooShort = member 4 order SealedTooShort (lit< tt)
-complete OutputTooShort = member 5 order OutputTooShort (lit< tt)
-complete TagDiffers = member 6 order TagDiffers (lit< tt)
+module _ (key nonce ad : List ℕ) (tooLong tooShort noRoom wrongTag : Bool) where
+  -- Where no row of the order applies, none does.
+  pub none-at-all : Clear order (rows key nonce ad tooLong tooShort noRoom wrongTag) → (r : Refusal) → rows key nonce ad tooLong tooShort noRoom wrongTag r ≡ false
+  none-at-all clear =
+      no-other (table key nonce ad tooLong tooShort noRoom wrongTag)
+      (subst (λ (rs : List Refusal). Clear rs (rows key nonce ad tooLong tooShort noRoom wrongTag)) (sym (tabled key nonce ad tooLong tooShort noRoom wrongTag)) clear)
 
-pub unrefused : {applies : Refusal → Bool} {written out : List ℕ} {o : Outcome} → Demand1 applies written out o → Unrefused applies o
-unrefused d = (λ a r. d .accepts .0 a r (complete r), λ none. d .accepts .1 (λ r listed. none r))
+  pub demand1 : (written out : List ℕ) → Demand1 (rows key nonce ad tooLong tooShort noRoom wrongTag) written out (judged order (rows key nonce ad tooLong tooShort noRoom wrongTag) written out)
+  demand1 written out =
+      let d = anyCall.demand1 order (rows key nonce ad tooLong tooShort noRoom wrongTag) written out in
+      record { ordered = d; accepts = (λ a. none-at-all (d .accepts .0 a), λ none. d .accepts .1 (λ r listed. none r)) }

@@ -12,31 +12,30 @@ use Rattle.bits.specs.Bytes.{Bytes}
 use Rattle.refusals.specs.declared.Refusal.the-variants.{TagDiffers}
 use Rattle.refusals.specs.declared.Check.{Check}
 use Rattle.refusals.specs.declared.Check.the-variants.{Passed}
-use Rattle.refusals.specs.Refusals.{check}
+use Rattle.refusals.specs.Refusals.{among, check}
 use Rattle.refusals.specs.Outcome.{Outcome, settled, refused, success}
 use Rattle.refusals.specs.Demand1.{Accepts}
-use Rattle.refusals.proofs.Demand1.{demand1}
 use Rattle.refusals.proofs.LastRow.{after, settled-last}
 use Rattle.startup.specs.Sizes.{keySize, nonceSize}
 use Rattle.payload.specs.Sizes.{tagSize}
 use Rattle.grain128aead.specs.Sizes.{adLimit, messageLimit}
 use Rattle.payload.specs.Payload.{ciphertext, deciphered, tag, payload, ciphertextPart, tagPart}
-use Rattle.grain128aead.specs.Order.{sizeRefusals, order}
-use Rattle.grain128aead.specs.Calls.{rows, sealingRow, sealed, recovered, openingRow, opened, tagDiffers}
+use Rattle.grain128aead.specs.Order.{sizeRefusals}
+use Rattle.grain128aead.specs.Calls.{table, sealingRow, sealed, recovered, openingRow, opened, tagDiffers}
 use Rattle.grain128aead.specs.Demand1.{Demand1}
 use Rattle.grain128aead.specs.Demand2.{Legal, Makes, Sealing, Demand2}
 use Rattle.payload.proofs.Payload.{ciphertextPart-joined, tagPart-joined, parts-join, ciphertextPart-bytes, lengths, length-deciphered, deciphered-bytes, length-tag, length-payload, deciphered-ciphertext, ciphertext-deciphered}
-use Rattle.grain128aead.proofs.Demand1.{unrefused}
+use Rattle.grain128aead.proofs.Demand1.{demand1}
 use Rattle.grain128aead.proofs.Settled.{sizesOf, opened-settled}
 use Rattle.grain128aead.proofs.Rows.{rows-clear, clear-rows, Authentic, tag-authentic, authentic-tag}
 
 module _ (key nonce ad message out : List ℕ) where
   pub demand1-sealing : Demand1 (sealingRow key nonce ad message out) (payload key nonce ad message) out (sealed key nonce ad message out)
   unfolding sealed
-  demand1-sealing = demand1 order (sealingRow key nonce ad message out) (payload key nonce ad message) out
+  demand1-sealing = demand1 key nonce ad _ _ _ _ (payload key nonce ad message) out
 
   accepted : Legal key nonce ad message → length message + tagSize ≤ length out → Accepts (sealed key nonce ad message out)
-  accepted legal room = unrefused demand1-sealing .1 (clear-rows key nonce ad _ _ _ _ record {
+  accepted legal room = demand1-sealing .accepts .1 (clear-rows key nonce ad _ _ _ _ record {
     keySized = legal .keySized;
     nonceSized = legal .nonceSized;
     adFits = legal .adFits;
@@ -48,18 +47,18 @@ module _ (key nonce ad message out : List ℕ) where
 
   legal : Accepts (sealed key nonce ad message out) → Legal key nonce ad message × (length message + tagSize ≤ length out)
   legal a =
-      let c = rows-clear key nonce ad _ _ _ _ (unrefused demand1-sealing .0 a) in (
+      let c = rows-clear key nonce ad _ _ _ _ (demand1-sealing .accepts .0 a) in (
         record { keySized = c .keySized; nonceSized = c .nonceSized; adFits = c .adFits; messageFits = ltb-false messageLimit (length message) (c .fits) },
         ltb-false (length out) (length message + tagSize) (c .room),
       )
 
   pub sealing : Sealing key nonce ad message out (sealed key nonce ad message out)
-  sealing = record { accepts = (legal, λ h. accepted (h .0) (h .1)); seals = λ l room. demand1-sealing .writes (accepted l room) }
+  sealing = record { accepts = (legal, λ h. accepted (h .0) (h .1)); seals = λ l room. demand1-sealing .ordered .writes (accepted l room) }
 
 module _ (key nonce ad input out : List ℕ) where
   pub demand1-opening : Demand1 (openingRow key nonce ad input out) (recovered key nonce ad input) out (opened key nonce ad input out)
   unfolding opened
-  demand1-opening = demand1 order (openingRow key nonce ad input out) (recovered key nonce ad input) out
+  demand1-opening = demand1 key nonce ad _ _ _ _ (recovered key nonce ad input) out
 
   -- The sizes are in order.
   pub record InOrder : Type 0 where
@@ -81,7 +80,7 @@ module _ (key nonce ad input out : List ℕ) where
   }
 
   passed : InOrder → sizesOf key nonce ad (ltb (messageLimit + tagSize) (length input)) (ltb (length input) tagSize) (ltb (length out) (length input - tagSize)) ≡ Passed
-  unfolding check sizeRefusals rows
+  unfolding check sizeRefusals table among
   passed o =
       simp (
         eq-eqb (length key) keySize (o .keySized),
@@ -101,7 +100,7 @@ module _ (key nonce ad input out : List ℕ) where
 
   pub opening-in-order : Accepts (opened key nonce ad input out) → InOrder × Authentic key nonce ad input
   opening-in-order a =
-      let c = rows-clear key nonce ad _ _ _ _ (unrefused demand1-opening .0 a) in (
+      let c = rows-clear key nonce ad _ _ _ _ (demand1-opening .accepts .0 a) in (
         record {
           keySized = c .keySized;
           nonceSized = c .nonceSized;

@@ -11,7 +11,7 @@ use lib.Dec.{ltb}
 use lib.ListN.{length, take, drop}
 use lib.Seq.{paste, take-at, drop-at, take-all, drop-drop}
 use Rattle.bits.specs.Bytes.{Bytes, word, value, bits, bytes, same}
-use Rattle.bits.proofs.Packing.{bytes-bits, bits-bytes, length-bits, Bytes-drop}
+use Rattle.bits.proofs.Packing.{bytes-bits, bits-bytes, Bytes-drop}
 use Rattle.bits.proofs.Spelling.{spelled-eight}
 use Rattle.bits.proofs.Word.{length-word, value-word}
 use Rattle.refusals.specs.declared.Check.{Check}
@@ -33,7 +33,7 @@ use Rattle.payload.specs.AuthenticatedString.{header, authenticated}
 use Rattle.payload.specs.Payload.{begun, ciphertext, deciphered, tag, payload, ciphertextPart, tagPart}
 use Rattle.grain128aead.specs.Order.{order}
 use Rattle.grain128aead.specs.Calls.{rows, sealed, recovered, tagDiffers, opened}
-use Rattle.grain128aead.proofs.Demand1.{complete}
+use Rattle.grain128aead.proofs.Demand1.{none-at-all}
 use Rattle.payload.proofs.Payload.{lengths, length-ciphertext, length-payload, length-tag, length-deciphered, deciphered-bits, tagPart-is}
 use Rattle.grain128aead.proofs.Rows.{NoneApplies, rows-clear, tag-authentic, authentic-tag}
 use Rattle.grain128aead.proofs.Settled.{sizesOf, check-rows, sealed-settled, opened-settled}
@@ -42,8 +42,9 @@ use Rattle.grain128aead.proofs.Settled.{sizesOf, check-rows, sealed-set
 sizes-clear : (key nonce ad : List ℕ) (tooLong tooShort noRoom : Bool) → sizesOf key nonce ad tooLong tooShort noRoom ≡ Passed → NoneApplies key nonce ad tooLong tooShort noRoom false
 sizes-clear key nonce ad tooLong tooShort noRoom e =
     rows-clear key nonce ad tooLong tooShort noRoom false
-    (λ r. passed-clear (rows key nonce ad tooLong tooShort noRoom false) order
-    (check-rows key nonce ad tooLong tooShort noRoom false ∙ ap (λ (c : Check). after c TagDiffers false) e) r (complete r))
+    (none-at-all key nonce ad tooLong tooShort noRoom false
+    (passed-clear (rows key nonce ad tooLong tooShort noRoom false) order
+    (check-rows key nonce ad tooLong tooShort noRoom false ∙ ap (λ (c : Check). after c TagDiffers false) e)))
 
 -- The tag, from the machine where the message begins.
 module _ (key nonce ad message : List ℕ) where

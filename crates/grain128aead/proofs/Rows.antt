@@ -3,7 +3,7 @@
 use mathlib.Core.Path.{_≡_, ap, _∙_}
 use mathlib.Core.Bool.{Bool, false, not}
 use mathlib.Core.List.{List}
-use Prim.Native.Nat.{ℕ, _-_, _≤_}
+use Prim.Native.Nat.{ℕ, _≤_}
 use borrow.Author.Tests.{ltb-false, le-ltb, eqb-true, eq-eqb, not-false}
 use lib.Dec.{eqb}
 use lib.ListN.{length}
@@ -11,10 +11,12 @@ use Rattle.bits.specs.Bytes.{same}
 use Rattle.bits.proofs.Packing.{same-equal, equal-same}
 use Rattle.refusals.specs.declared.Refusal.{Refusal}
 use Rattle.refusals.specs.declared.Refusal.the-variants.{KeySize, NonceSize, AdTooLong, MessageTooLong, SealedTooShort, OutputTooShort, TagDiffers}
+use Rattle.refusals.specs.Refusals.{among}
+use Rattle.refusals.proofs.Rows.{quiet-none, quiet-row}
 use Rattle.startup.specs.Sizes.{keySize, nonceSize}
 use Rattle.grain128aead.specs.Sizes.{adLimit}
 use Rattle.payload.specs.Payload.{tag, tagPart}
-use Rattle.grain128aead.specs.Calls.{rows, recovered, tagDiffers}
+use Rattle.grain128aead.specs.Calls.{table, rows, recovered, tagDiffers}
 
 pub record NoneApplies (key nonce ad : List ℕ) (tooLong tooShort noRoom wrongTag : Bool) : Type 0 where
   pub keySized : length key ≡ keySize
@@ -27,7 +29,7 @@ pub record NoneApplies (key nonce ad : List ℕ) (tooLong tooShort noRoom wrongT
 
 module _ (key nonce ad : List ℕ) (tooLong tooShort noRoom wrongTag : Bool) where
   pub rows-clear : ((r : Refusal) → rows key nonce ad tooLong tooShort noRoom wrongTag r ≡ false) → NoneApplies key nonce ad tooLong tooShort noRoom wrongTag
-  unfolding rows
+  unfolding table among
   rows-clear none = record {
     keySized = eqb-true (length key) keySize (not-false (eqb (length key) keySize) (none KeySize));
     nonceSized = eqb-true (length nonce) nonceSize (not-false (eqb (length nonce) nonceSize) (none NonceSize));
@@ -39,14 +41,12 @@ module _ (key nonce ad : List ℕ) (tooLong tooShort noRoom wrongTag : Bool) whe
   }
 
   pub clear-rows : NoneApplies key nonce ad tooLong tooShort noRoom wrongTag → (r : Refusal) → rows key nonce ad tooLong tooShort noRoom wrongTag r ≡ false
-  unfolding rows
-  clear-rows clear KeySize = ap not (eq-eqb (length key) keySize (clear .keySized))
-  clear-rows clear NonceSize = ap not (eq-eqb (length nonce) nonceSize (clear .nonceSized))
-  clear-rows clear AdTooLong = le-ltb adLimit (length ad) (clear .adFits)
-  clear-rows clear MessageTooLong = clear .fits
-  clear-rows clear SealedTooShort = clear .reaches
-  clear-rows clear OutputTooShort = clear .room
-  clear-rows clear TagDiffers = clear .authentic
+  unfolding table
+  clear-rows clear =
+      quiet-row _ _ (ap not (eq-eqb (length key) keySize (clear .keySized)))
+      (quiet-row _ _ (ap not (eq-eqb (length nonce) nonceSize (clear .nonceSized)))
+      (quiet-row _ _ (le-ltb adLimit (length ad) (clear .adFits))
+      (quiet-row _ _ (clear .fits) (quiet-row _ _ (clear .reaches) (quiet-row _ _ (clear .room) (quiet-row _ _ (clear .authentic) quiet-none))))))
 
 -- The tag part is the tag of the message that the input would have.
 abbrev pub Authentic : (key nonce ad input : List ℕ) → Type 0

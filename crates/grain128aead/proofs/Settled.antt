@@ -8,21 +8,21 @@ use lib.Dec.{ltb}
 use lib.ListN.{length}
 use Rattle.refusals.specs.declared.Refusal.the-variants.{TagDiffers}
 use Rattle.refusals.specs.declared.Check.{Check}
-use Rattle.refusals.specs.Refusals.{check}
+use Rattle.refusals.specs.Refusals.{among, check}
 use Rattle.refusals.specs.Outcome.{settled, judged}
 use Rattle.refusals.proofs.LastRow.{after, after-false, check-last}
 use Rattle.payload.specs.Sizes.{tagSize}
 use Rattle.grain128aead.specs.Sizes.{messageLimit}
 use Rattle.payload.specs.Payload.{payload}
 use Rattle.grain128aead.specs.Order.{sizeRefusals, order}
-use Rattle.grain128aead.specs.Calls.{rows, sealed, recovered, tagDiffers, opened}
+use Rattle.grain128aead.specs.Calls.{table, rows, sealed, recovered, tagDiffers, opened}
 
 -- What the sizes come to, whatever the tag.
 abbrev pub sizesOf : (key nonce ad : List ℕ) → (tooLong tooShort noRoom : Bool) → Check
 sizesOf key nonce ad tooLong tooShort noRoom = check sizeRefusals (rows key nonce ad tooLong tooShort noRoom false)
 
 pub check-rows : (key nonce ad : List ℕ) (tooLong tooShort noRoom differs : Bool) → check order (rows key nonce ad tooLong tooShort noRoom differs) ≡ after (sizesOf key nonce ad tooLong tooShort noRoom) TagDiffers differs
-unfolding order rows check sizeRefusals
+unfolding order table among check sizeRefusals
 check-rows key nonce ad tooLong tooShort noRoom differs = check-last sizeRefusals TagDiffers (rows key nonce ad tooLong tooShort noRoom differs)
 
 pub sealed-settled : (key nonce ad message out : List ℕ)

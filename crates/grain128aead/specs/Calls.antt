@@ -1,13 +1,14 @@
 -- Sealing and opening: from key, nonce, AD, message or sealed input and the lent output, byte strings of any length, to the answer and
 -- the output afterwards (document 01, "When the box says no").
 use mathlib.Core.Bool.{Bool, false, not}
-use mathlib.Core.List.{List}
+use mathlib.Core.List.{List, [], _∷_}
 use Prim.Native.Nat.{ℕ, _+_, _-_}
 use lib.Dec.{eqb, ltb}
 use lib.ListN.{length}
 use Rattle.bits.specs.Bytes.{same}
 use Rattle.refusals.specs.declared.Refusal.{Refusal}
 use Rattle.refusals.specs.declared.Refusal.the-variants.{KeySize, NonceSize, AdTooLong, MessageTooLong, SealedTooShort, OutputTooShort, TagDiffers}
+use Rattle.refusals.specs.Refusals.{Row, _when_, among}
 use Rattle.refusals.specs.Outcome.{Outcome, judged}
 use Rattle.startup.specs.Sizes.{keySize, nonceSize}
 use Rattle.payload.specs.Sizes.{tagSize}
@@ -15,15 +16,21 @@ use Rattle.grain128aead.specs.Sizes.{adLimit, messageLimit}
 use Rattle.payload.specs.Payload.{payload, deciphered, tag, ciphertextPart, tagPart}
 use Rattle.grain128aead.specs.Order.{order}
 
--- When each row applies. Rows 1 to 3 are the same for both calls; for the others a call says whether they apply.
-unfoldable pub rows : (key nonce ad : List ℕ) → (tooLong tooShort noRoom wrongTag : Bool) → Refusal → Bool
-rows key nonce ad tooLong tooShort noRoom wrongTag KeySize = not (eqb (length key) keySize)
-rows key nonce ad tooLong tooShort noRoom wrongTag NonceSize = not (eqb (length nonce) nonceSize)
-rows key nonce ad tooLong tooShort noRoom wrongTag AdTooLong = ltb adLimit (length ad)
-rows key nonce ad tooLong tooShort noRoom wrongTag MessageTooLong = tooLong
-rows key nonce ad tooLong tooShort noRoom wrongTag SealedTooShort = tooShort
-rows key nonce ad tooLong tooShort noRoom wrongTag OutputTooShort = noRoom
-rows key nonce ad tooLong tooShort noRoom wrongTag TagDiffers = wrongTag
+-- The rows, in their order. Rows 1 to 3 are the same for both calls; for the others a call says whether they apply.
+unfoldable pub table : (key nonce ad : List ℕ) → (tooLong tooShort noRoom wrongTag : Bool) → List Row
+table key nonce ad tooLong tooShort noRoom wrongTag =
+    (KeySize when not (eqb (length key) keySize))
+    ∷ (NonceSize when not (eqb (length nonce) nonceSize))
+    ∷ (AdTooLong when ltb adLimit (length ad))
+    ∷ (MessageTooLong when tooLong)
+    ∷ (SealedTooShort when tooShort)
+    ∷ (OutputTooShort when noRoom)
+    ∷ (TagDiffers when wrongTag)
+    ∷ []
+
+-- When the row of each refusal applies.
+abbrev pub rows : (key nonce ad : List ℕ) → (tooLong tooShort noRoom wrongTag : Bool) → Refusal → Bool
+rows key nonce ad tooLong tooShort noRoom wrongTag = among (table key nonce ad tooLong tooShort noRoom wrongTag)
 
 -- Rows 5 and 7 do not apply to sealing.
 abbrev pub sealingRow : (key nonce ad message out : List ℕ) → Refusal → Bool

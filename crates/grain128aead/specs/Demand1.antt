@@ -2,7 +2,7 @@
 use mathlib.Core.Path.{_≡_}
 use mathlib.Core.Logic.{_↔_}
 use mathlib.Core.Bool.{Bool, false}
-use mathlib.Core.List.{List, [], _∷_, map, List·Memᴰ}
+use mathlib.Core.List.{List, [], _∷_, map}
 use Prim.Native.Nat.{ℕ}
 use Rattle.refusals.specs.declared.Refusal.{Refusal}
 use Rattle.refusals.specs.Refusals.{number}
@@ -10,18 +10,20 @@ use Rattle.refusals.specs.Outcome.{Outcome}
 use Rattle.refusals.specs.Demand1.{Accepts}
 use Rattle.refusals.specs.Demand1 as anyCall
 use Rattle.grain128aead.specs.Order.{order}
+use Rattle.grain128aead.specs.Calls.{table}
 
 -- The order is that of document 01's table.
 abbrev pub Numbered : Type 0
 Numbered = map number order ≡ 1 ∷ 2 ∷ 3 ∷ 4 ∷ 5 ∷ 6 ∷ 7 ∷ []
 
--- Over the rows of a call, the bytes that it writes on success, and the lent output.
-abbrev pub Demand1 : (applies : Refusal → Bool) → (written out : List ℕ) → Outcome → Type 0
-Demand1 = anyCall.Demand1 order
+-- It is that of the rows.
+abbrev pub Tabled : Type 0
+Tabled =
+    (key nonce ad : List ℕ) (tooLong tooShort noRoom wrongTag : Bool)
+    → map (λ row. row .refusal) (table key nonce ad tooLong tooShort noRoom wrongTag) ≡ order
 
--- Every refusal stands in the order, so that a call accepts exactly when no row at all applies.
-abbrev pub Complete : Type 0
-Complete = (r : Refusal) → List·Memᴰ r order
-
-abbrev pub Unrefused : (applies : Refusal → Bool) → Outcome → Type 0
-Unrefused applies o = Accepts o ↔ ((r : Refusal) → applies r ≡ false)
+-- Over the rows of a call, the bytes that it writes on success, and the lent output: demand 1 at the order, and since no row stands
+-- outside it, the call accepts exactly when no row at all applies.
+pub record Demand1 (applies : Refusal → Bool) (written out : List ℕ) (o : Outcome) : Type 0 where
+  pub ordered : anyCall.Demand1 order applies written out o
+  pub accepts : Accepts o ↔ ((r : Refusal) → applies r ≡ false)

@@ -1,6 +1,6 @@
 -- The accumulator in closed form, and what flips in a string do to it.
 -- Assumes nothing.
-use mathlib.Core.Path.{_≡_, sym, ap, ap₂, _∙_, fun-ext}
+use mathlib.Core.Path.{_≡_, sym, ap, _∙_, fun-ext}
 use mathlib.Core.Bool.{Bool, false}
 use mathlib.Core.List.{List}
 use Prim.Native.Nat.{ℕ, _<_}
@@ -11,7 +11,7 @@ use Rattle.authenticator.specs.Authenticator.{Authenticator, registerAfter}
 use Rattle.authenticator.specs.ClosedForm.{registersAt}
 use Rattle.authenticator.proofs.ClosedForm.{closed-form}
 use Rattle.authenticator.proofs.Linear.{registersAt-sum}
-use Rattle.machine.specs.Machine.{State, run}
+use Rattle.machine.specs.Machine.{State}
 use Rattle.machine.specs.Laws.{Sized, registerAt, ClosedForm, Flips}
 use Rattle.machine.proofs.Machine.{registerBits, run-authenticator, run-register, run-sized}
 

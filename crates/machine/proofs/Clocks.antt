@@ -9,7 +9,7 @@ use native.Mathlib.Nat.{le-of-suc-le-suc, not-suc-le-zero}
 use native.Mathlib.Numerals.{add-one}
 use lib.ListN.{length, getD}
 use Rattle.bits.specs.Bit.{_⊻_}
-use Rattle.bits.specs.Strings.{_⊞_, shift}
+use Rattle.bits.specs.Strings.{shift}
 use Rattle.bits.specs.Times.{times}
 use Rattle.bits.proofs.Sum.{getD-sum}
 use Rattle.bits.proofs.Times.{times-last, times-add}

@@ -12,7 +12,7 @@ use lib.Seq.{drop-cons, take-at, drop-at, take-suc-set, drop-set-lt, drop-drop}
 use Rattle.bits.specs.Bit.{_⊻_}
 use Rattle.bits.specs.Bytes.{word, value, bits, bytes, flip}
 use Rattle.bits.specs.Strings.{_⊞_}
-use Rattle.bits.proofs.Packing.{length-bits, length-bytes, bits-bytes}
+use Rattle.bits.proofs.Packing.{length-bits, bits-bytes}
 use Rattle.bits.proofs.Word.{length-word, value-word}
 use Rattle.preoutput.specs.Algebra.{single}
 use Rattle.preoutput.specs.Generator.{everySecond}
@@ -142,10 +142,6 @@ module _ (sealing : Bool) (s lent : List ℕ) (a : State) {whole : List ℕ} whe
 pub bits-cryptBytes : (sealing : Bool) (st : State) (s : List ℕ) → bits (cryptBytes sealing st s) ≡ crypt sealing st (bits s)
 unfolding cryptBytes
 bits-cryptBytes sealing st s = bits-bytes (length s) (crypt sealing st (bits s)) (length-crypt sealing st (bits s) ∙ length-bits s)
-
-pub length-cryptBytes : (sealing : Bool) (st : State) (s : List ℕ) → length (cryptBytes sealing st s) ≡ length s
-unfolding cryptBytes
-length-cryptBytes sealing st s = length-bytes (length s) (crypt sealing st (bits s))
 
 -- They are those that go in, flipped by the keystream.
 pub cryptBytes-flip : (sealing : Bool) (st : State) (s : List ℕ) → cryptBytes sealing st s ≡ flip s (everySecond single (8 * length s) (st .generator))

@@ -8,8 +8,7 @@ use native.Mathlib.Omega.{arith}
 use borrow.Author.Tests.{lt-ltb, le-ltb}
 use lib.ListN.{length, take, drop, length-append, take-append-drop, length-take, length-drop}
 use lib.Seq.{take-at, drop-at}
-use Rattle.bits.specs.Bytes.{Bytes, bits, bytes, flip}
-use Rattle.bits.specs.Strings.{_⊞_}
+use Rattle.bits.specs.Bytes.{Bytes, bits, flip}
 use Rattle.bits.proofs.Packing.{length-bits, length-bytes, bytes-are-bytes, Bytes-take}
 use Rattle.bits.proofs.Flip.{length-flip, flip-twice}
 use Rattle.preoutput.specs.Algebra.{single}
@@ -17,7 +16,7 @@ use Rattle.preoutput.specs.Generator.{Generator, everySecond}
 use Rattle.preoutput.proofs.Streams.{length-everySecond}
 use Rattle.machine.specs.Machine.{encipher, decipher}
 use Rattle.machine.proofs.Machine.{run-generator}
-use Rattle.machine.proofs.OverBytes.{cryptBytes, bits-cryptBytes, length-cryptBytes, cryptBytes-flip}
+use Rattle.machine.proofs.OverBytes.{cryptBytes, bits-cryptBytes, cryptBytes-flip}
 use Rattle.startup.specs.StartUp.{initialised}
 use Rattle.payload.specs.Sizes.{tagSize}
 use Rattle.payload.specs.AuthenticatedString.{codedLength, header}

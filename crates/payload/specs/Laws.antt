@@ -1,7 +1,7 @@
 -- Laws of payloads: the lengths of every piece, what the authenticated string tells, the machine's laws under a key and a nonce, and what
 -- flips do to the tag.
 use mathlib.Core.Path.{_≡_}
-use mathlib.Core.Bool.{Bool, true, false}
+use mathlib.Core.Bool.{Bool, false}
 use mathlib.Core.List.{List, [], _∷_, _++_}
 use Prim.Native.Nat.{ℕ, _+_, _-_, _*_, _≤_, _<_}
 use lib.ListN.{length, getD}

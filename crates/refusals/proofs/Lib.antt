@@ -1,3 +1,4 @@
 pub mod Demand1
+pub mod Rows
 pub mod LastRow
 pub mod Returned

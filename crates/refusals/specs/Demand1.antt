@@ -3,11 +3,12 @@
 use mathlib.Core.Path.{_≡_}
 use mathlib.Core.Logic.{_↔_}
 use mathlib.Core.Bool.{Bool, true, false}
-use mathlib.Core.List.{List, [], _∷_, _++_, List·Memᴰ}
+use mathlib.Core.List.{List, _∷_, _++_, map, List·Memᴰ}
 use Prim.Native.Nat.{ℕ}
 use lib.ListN.{length, take, drop}
 use Rattle.refusals.specs.declared.Refusal.{Refusal}
 use Rattle.refusals.specs.declared.Answer.the-variants.{Count, Refused}
+use Rattle.refusals.specs.Refusals.{Row, among}
 use Rattle.refusals.specs.Outcome.{Outcome, success}
 
 -- Of a list of refusals, r is the first whose row applies: it stands there, its row applies, and that of none before it does.
@@ -31,3 +32,7 @@ pub record Demand1 (order : List Refusal) (applies : Refusal → Bool) (written 
   pub writes : Accepts o → o ≡ success written out
   pub front : Accepts o → take (length written) (o .output) ≡ written
   pub behind : Accepts o → drop (length written) (o .output) ≡ drop (length written) out
+
+-- Of a list of rows, in their order: where none of them applies, no refusal's row does.
+abbrev pub NoOther : Type 0
+NoOther = (rows : List Row) → Clear (map (λ row. row .refusal) rows) (among rows) → (r : Refusal) → among rows r ≡ false

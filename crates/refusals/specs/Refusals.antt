@@ -1,7 +1,8 @@
--- Refusals: their numbers, and the first row of a list that applies (document 01, "When the box says no").
-use mathlib.Core.Bool.{Bool, cond}
+-- Refusals: their numbers, rows, and the first row that applies (document 01, "When the box says no").
+use mathlib.Core.Bool.{Bool, false, cond}
 use mathlib.Core.List.{List, [], _∷_}
 use Prim.Native.Nat.{ℕ}
+use lib.Dec.{eqb}
 use Rattle.refusals.specs.declared.Refusal.{Refusal}
 use Rattle.refusals.specs.declared.Refusal.the-variants.{KeySize, NonceSize, AdTooLong, MessageTooLong, SealedTooShort, OutputTooShort, TagDiffers}
 use Rattle.refusals.specs.declared.Check.{Check}
@@ -16,7 +17,21 @@ number SealedTooShort = 5
 number OutputTooShort = 6
 number TagDiffers = 7
 
--- The first row of a list that applies. Each call has a list of its own, its order.
+-- A row of a call: a refusal, and whether it applies.
+pub record Row : Type 0 where
+  pub refusal : Refusal
+  pub applies : Bool
+
+infix 50 _when_
+abbrev pub _when_ : Refusal → Bool → Row
+r when applies = record { refusal = r; applies = applies }
+
+-- Whether the row with a refusal's number applies. A refusal that has no row in the list never does.
+unfoldable pub among : List Row → Refusal → Bool
+among [] r = false
+among (row ∷ rows) r = cond (eqb (number (row .refusal)) (number r)) (row .applies) (among rows r)
+
+-- The first refusal of a list whose row applies. Each call has a list of its own, its order.
 unfoldable pub check : List Refusal → (applies : Refusal → Bool) → Check
 check [] applies = Passed
 check (r ∷ rs) applies = cond (applies r) (Failed r) (check rs applies)

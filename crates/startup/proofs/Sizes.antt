@@ -5,12 +5,12 @@ use mathlib.Core.Bool.{Bool}
 use mathlib.Core.List.{List, [], _∷_}
 use Prim.Native.Nat.{ℕ, zero, suc}
 use native.Mathlib.Omega.{arith}
-use lib.ListN.{length, take, drop, length-take, length-drop}
+use lib.ListN.{length, drop, length-take, length-drop}
 use Rattle.bits.specs.Bytes.{bits}
 use Rattle.bits.specs.Times.{times}
 use Rattle.bits.proofs.Packing.{length-bits}
 use Rattle.preoutput.specs.Algebra.{single}
-use Rattle.preoutput.specs.Generator.{Generator, Sized, preoutput, fedBack, keyed}
+use Rattle.preoutput.specs.Generator.{Generator, Sized, fedBack, keyed}
 use Rattle.preoutput.proofs.Sizes.{clock-sized}
 use Rattle.startup.specs.Sizes.{keySize, nonceSize}
 use Rattle.startup.specs.StartUp.{loaded, warmed, rekeyed, preoutputs, initialised}

@@ -1,6 +1,6 @@
 // Start-up of the first edition: the loading, 256 clocks with the pre-output fed back, 128 clocks with the key.
 mod filling;
-mod loading;
+pub mod loading;
 
 ghost use mathlib.Core.Path.{_≡_};
 ghost use Rattle.machine.specs.Engine.{stateOf};

@@ -6,7 +6,7 @@ ghost use mathlib.Core.List.{_∷_, [], _++_};
 ghost use lib.ListN.{length, take, drop, replicate};
 ghost use Rattle.bits.specs.Bytes.{word, bits};
 ghost use Rattle.preoutput.specs.Words.{generatorOf};
-ghost use Rattle.startup.specs.Sizes.{keySize, nonceSize};
+ghost use Rattle.startup.specs.Sizes.{nonceSize};
 ghost use Rattle.startup.specs.StartUp.{loaded};
 use preoutput::Registers;
 
@@ -27,8 +27,7 @@ fn last_word(nonce: &[u8]) -> u64
     (bits::number(&nonce[8..12]) << 32) | 0xffff_fffe
 }
 
-pub fn load(key: &[u8], nonce: &[u8]) -> Registers
-    requires { ⌜ (length (now key) ≡ keySize) × (length (now nonce) ≡ nonceSize) ⌝ }
+pub fn load(key: &[u8; 16], nonce: &[u8; 12]) -> Registers
     ensures { λ r. ⌜ generatorOf r ≡ loaded (now (key .entry)) (now (nonce .entry)) ⌝ }
 {
     Registers {

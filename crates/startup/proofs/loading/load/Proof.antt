@@ -1,6 +1,9 @@
 -- `startup::loading::load` meets its contract.
 -- Assumes nothing.
+use mathlib.Core.Path.{_≡_}
 use borrow.Author.Needs.{needs}
+use lib.ListN.{length}
+use Rattle.startup.specs.Sizes.{keySize, nonceSize}
 use Rattle.startup.proofs.Loaded.{loaded-words}
 use Rattle.startup.proofs.loading.load.Statement.{statement}
 use Rattle.startup.proofs.loading.load.Tie as tie
@@ -19,12 +22,17 @@ word-at-requires-3 c κs = search needs
 
 returns : tie.Need-returns
 returns c =
-    let s = c .before .before .before .before .before .before in
-    loaded-words (s .args .key .now) (s .args .nonce .now) _ (s .pre .0) (s .pre .1)
+    let w = c .before .before in
+    let l = w .before .before in
+    let n = l .before .before in
+    let s = n .before .before in
+    let key : length (s .args .key .now) ≡ keySize = search needs in
+    let nonce : length (s .args .nonce .now) ≡ nonceSize = search needs in
+    loaded-words (s .args .key .now) (s .args .nonce .now) _ key nonce
     record {
-      lfsr0 = c .before .before .before .word-at .ensures;
-      lfsr1 = c .before .before .last-word .ensures;
-      nfsr0 = c .before .word-at2 .ensures;
+      lfsr0 = n .word-at .ensures;
+      lfsr1 = l .last-word .ensures;
+      nfsr0 = w .word-at2 .ensures;
       nfsr1 = c .word-at3 .ensures;
     }
 
