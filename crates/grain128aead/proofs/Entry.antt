@@ -21,7 +21,7 @@ use Rattle.refusals.specs.declared.Refusal.the-variants.{TagDiffers}
 use Rattle.machine.specs.declared.engine.Engine.{Engine}
 use Rattle.refusals.specs.declared.Answer.the-variants.{Count, Refused}
 use Rattle.refusals.specs.Outcome.{outcome, refused, success, settled}
-use Rattle.refusals.proofs.Demand1.{passed-clear}
+use Rattle.refusals.proofs.Demand1.{decides}
 use Rattle.refusals.proofs.LastRow.{after, settled-last}
 use Rattle.machine.specs.Machine.{State, run, crypt, decipher}
 use Rattle.machine.specs.Engine.{stateOf, CryptsAll}
@@ -43,7 +43,7 @@ sizes-clear : (key nonce ad : List ℕ) (tooLong tooShort noRoom : Bool) → siz
 sizes-clear key nonce ad tooLong tooShort noRoom e =
     rows-clear key nonce ad tooLong tooShort noRoom false
     (none-at-all key nonce ad tooLong tooShort noRoom false
-    (passed-clear (rows key nonce ad tooLong tooShort noRoom false) order
+    (decides (rows key nonce ad tooLong tooShort noRoom false) order .passes .0
     (check-rows key nonce ad tooLong tooShort noRoom false ∙ ap (λ (c : Check). after c TagDiffers false) e)))
 
 -- The tag, from the machine where the message begins.

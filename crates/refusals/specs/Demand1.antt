@@ -7,6 +7,8 @@ use mathlib.Core.List.{List, _∷_, _++_, map, List·Memᴰ}
 use Prim.Native.Nat.{ℕ}
 use lib.ListN.{length, take, drop}
 use Rattle.refusals.specs.declared.Refusal.{Refusal}
+use Rattle.refusals.specs.declared.Check.{Check}
+use Rattle.refusals.specs.declared.Check.the-variants.{Passed, Failed}
 use Rattle.refusals.specs.declared.Answer.the-variants.{Count, Refused}
 use Rattle.refusals.specs.Refusals.{Row, among}
 use Rattle.refusals.specs.Outcome.{Outcome, success}
@@ -20,6 +22,11 @@ First rs applies r =
 -- No row of a list applies.
 abbrev pub Clear : List Refusal → (applies : Refusal → Bool) → Type 0
 Clear rs applies = (r : Refusal) → List·Memᴰ r rs → applies r ≡ false
+
+-- What the rows of a call decide, whatever it writes: it fails with the first refusal whose row applies, and passes where none does.
+pub record Decides (order : List Refusal) (applies : Refusal → Bool) (c : Check) : Type 0 where
+  pub fails : (r : Refusal) → (c ≡ Failed r) ↔ First order applies r
+  pub passes : (c ≡ Passed) ↔ Clear order applies
 
 abbrev pub Accepts : Outcome → Type 0
 Accepts o = (n : ℕ) × (o .answer ≡ Count n)
