@@ -4,3 +4,4 @@ pub mod Accumulator
 pub mod Cutting
 pub mod Bytewise
 pub mod OverBytes
+pub mod ByteStrings

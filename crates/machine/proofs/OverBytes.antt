@@ -3,23 +3,19 @@
 use mathlib.Core.Path.{_≡_, refl, sym, ap, ap₂, _∙_}
 use mathlib.Core.Bool.{Bool, true, false, cond}
 use mathlib.Core.List.{List, [], _∷_, _++_, append-assoc, append-nil}
-use Prim.Native.Nat.{ℕ, suc, _+_, _*_, _<_, _≤_}
+use Prim.Native.Nat.{ℕ, suc, _+_, _<_, _≤_}
 use native.Mathlib.Nat.{mod-eq-of-lt, le-of-eq}
 use native.Mathlib.Numerals.{add-one}
 use native.Mathlib.Omega.{arith}
 use lib.ListN.{length, getD, take, drop, set, drop-of-length-le, take-append-drop}
 use lib.Seq.{drop-cons, take-at, drop-at, take-suc-set, drop-set-lt, drop-drop}
 use Rattle.bits.specs.Bit.{_⊻_}
-use Rattle.bits.specs.Bytes.{word, value, bits, bytes, flip}
-use Rattle.bits.specs.Strings.{_⊞_}
-use Rattle.bits.proofs.Packing.{length-bits, bits-bytes}
+use Rattle.bits.specs.Bytes.{word, value, bits, bytes}
 use Rattle.bits.proofs.Word.{length-word, value-word}
-use Rattle.preoutput.specs.Algebra.{single}
-use Rattle.preoutput.specs.Generator.{everySecond}
 use Rattle.machine.specs.declared.engine.Crypted.{Crypted}
 use Rattle.machine.specs.Engine.{stateOf, Crypts}
 use Rattle.machine.specs.Machine.{State, keystreamBit, step, run, crypt}
-use Rattle.machine.proofs.Machine.{run-append, crypt-sum, length-crypt}
+use Rattle.machine.proofs.Machine.{run-append, length-crypt}
 
 -- The machine after the message whose bits are given or come out.
 unfoldable pub through : (sealing : Bool) → State → List Bool → State
@@ -135,16 +131,3 @@ module _ (sealing : Bool) (s lent : List ℕ) (a : State) {whole : List ℕ} whe
   write-end i out e all kept =
       sym (take-append-drop i out)
       ∙ ap₂ _++_ (sym (ap (λ (r : List ℕ). take i out ++ cryptBytes sealing a r) (drop-of-length-le s (le-of-eq (sym e))) ∙ append-nil (take i out)) ∙ all) (kept ∙ ap (λ (k : ℕ). drop k lent) e)
-
--- ---- whole byte strings
-
--- The bits of the bytes that come out.
-pub bits-cryptBytes : (sealing : Bool) (st : State) (s : List ℕ) → bits (cryptBytes sealing st s) ≡ crypt sealing st (bits s)
-unfolding cryptBytes
-bits-cryptBytes sealing st s = bits-bytes (length s) (crypt sealing st (bits s)) (length-crypt sealing st (bits s) ∙ length-bits s)
-
--- They are those that go in, flipped by the keystream.
-pub cryptBytes-flip : (sealing : Bool) (st : State) (s : List ℕ) → cryptBytes sealing st s ≡ flip s (everySecond single (8 * length s) (st .generator))
-unfolding cryptBytes flip
-cryptBytes-flip sealing st s =
-    ap (bytes (length s)) (crypt-sum sealing st (bits s) ∙ ap (λ (n : ℕ). bits s ⊞ everySecond single n (st .generator)) (length-bits s))

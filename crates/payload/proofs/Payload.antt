@@ -10,13 +10,12 @@ use lib.ListN.{length, take, drop, length-append, take-append-drop, length-take,
 use lib.Seq.{take-at, drop-at}
 use Rattle.bits.specs.Bytes.{Bytes, bits, flip}
 use Rattle.bits.proofs.Packing.{length-bits, length-bytes, bytes-are-bytes, Bytes-take}
-use Rattle.bits.proofs.Flip.{length-flip, flip-twice}
 use Rattle.preoutput.specs.Algebra.{single}
 use Rattle.preoutput.specs.Generator.{Generator, everySecond}
-use Rattle.preoutput.proofs.Streams.{length-everySecond}
 use Rattle.machine.specs.Machine.{encipher, decipher}
 use Rattle.machine.proofs.Machine.{run-generator}
-use Rattle.machine.proofs.OverBytes.{cryptBytes, bits-cryptBytes, cryptBytes-flip}
+use Rattle.machine.proofs.OverBytes.{cryptBytes}
+use Rattle.machine.proofs.ByteStrings.{keystreamUnder, length-keystreamUnder, bits-cryptBytes, cryptBytes-flip, cryptBytes-twice}
 use Rattle.startup.specs.StartUp.{initialised}
 use Rattle.payload.specs.Sizes.{tagSize}
 use Rattle.payload.specs.AuthenticatedString.{codedLength, header}
@@ -67,11 +66,11 @@ module _ (key nonce ad : List ℕ) where
 
   pub ciphertext-bits : (message : List ℕ) → bits (ciphertext key nonce ad message) ≡ encipher (begun key nonce ad) (bits message)
   unfolding ciphertext cryptBytes
-  ciphertext-bits message = bits-cryptBytes true (begun key nonce ad) message
+  ciphertext-bits message = bits-cryptBytes (begun key nonce ad) true message
 
   pub deciphered-bits : (c : List ℕ) → bits (deciphered key nonce ad c) ≡ decipher (begun key nonce ad) (bits c)
   unfolding deciphered cryptBytes
-  deciphered-bits c = bits-cryptBytes false (begun key nonce ad) c
+  deciphered-bits c = bits-cryptBytes (begun key nonce ad) false c
 
   pub length-deciphered : (c : List ℕ) → length (deciphered key nonce ad c) ≡ length c
   unfolding deciphered
@@ -102,29 +101,27 @@ module _ (key nonce ad : List ℕ) where
   -- ---- the keystream under the message
 
   -- The keystream bits under n message bytes.
-  unfoldable pub under : ℕ → List Bool
-  under n = everySecond single (8 * n) (begun key nonce ad .generator)
+  abbrev pub under : ℕ → List Bool
+  under = keystreamUnder (begun key nonce ad)
 
   pub length-under : (n : ℕ) → length (under n) ≡ 8 * n
-  unfolding under
-  length-under n = length-everySecond (begun key nonce ad .generator) (8 * n)
+  length-under = length-keystreamUnder (begun key nonce ad)
 
   pub ciphertext-flip : (message : List ℕ) → ciphertext key nonce ad message ≡ flip message (under (length message))
-  unfolding ciphertext cryptBytes under
-  ciphertext-flip message = cryptBytes-flip true (begun key nonce ad) message
+  unfolding ciphertext cryptBytes
+  ciphertext-flip = cryptBytes-flip (begun key nonce ad) true
 
   pub deciphered-flip : (c : List ℕ) → deciphered key nonce ad c ≡ flip c (under (length c))
-  unfolding deciphered cryptBytes under
-  deciphered-flip c = cryptBytes-flip false (begun key nonce ad) c
-
-  flip-under-twice : (s : List ℕ) → Bytes s → flip (flip s (under (length s))) (under (length (flip s (under (length s))))) ≡ s
-  flip-under-twice s h = ap (λ (n : ℕ). flip (flip s (under (length s))) (under n)) (length-flip s (under (length s))) ∙ flip-twice s (under (length s)) h (length-under (length s))
+  unfolding deciphered cryptBytes
+  deciphered-flip = cryptBytes-flip (begun key nonce ad) false
 
   pub deciphered-ciphertext : (message : List ℕ) → Bytes message → deciphered key nonce ad (ciphertext key nonce ad message) ≡ message
-  deciphered-ciphertext message h = ap (deciphered key nonce ad) (ciphertext-flip message) ∙ deciphered-flip (flip message (under (length message))) ∙ flip-under-twice message h
+  unfolding ciphertext deciphered cryptBytes
+  deciphered-ciphertext = cryptBytes-twice (begun key nonce ad) true false
 
   pub ciphertext-deciphered : (c : List ℕ) → Bytes c → ciphertext key nonce ad (deciphered key nonce ad c) ≡ c
-  ciphertext-deciphered c h = ap (ciphertext key nonce ad) (deciphered-flip c) ∙ ciphertext-flip (flip c (under (length c))) ∙ flip-under-twice c h
+  unfolding ciphertext deciphered cryptBytes
+  ciphertext-deciphered = cryptBytes-twice (begun key nonce ad) false true
 
 length-header : (ad : List ℕ) → length (header ad) ≡ 8 * (length (codedLength (length ad)) + length ad)
 unfolding header
@@ -132,7 +129,7 @@ length-header ad = omega (arith, length-append (bits (codedLength (length ad))) 
 
 -- The keystream under the message does not see the bits of the AD.
 pub under-same : (key nonce ad ad′ : List ℕ) (n : ℕ) → length ad ≡ length ad′ → under key nonce ad n ≡ under key nonce ad′ n
-unfolding under begun
+unfolding keystreamUnder begun
 under-same key nonce ad ad′ n e =
     ap (λ (g : Generator Bool). everySecond single (8 * n) g)
     (run-generator (initialised key nonce) (initialised key nonce) (header ad) (header ad′) refl
