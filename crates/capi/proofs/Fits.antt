@@ -8,10 +8,10 @@ use lib.Dec.{lit<}
 use Rattle.refusals.specs.Outcome.{Outcome}
 use Rattle.refusals.specs.Signed.{capped}
 use Rattle.refusals.proofs.Returned.{outcome-fits}
-use Rattle.grain128aead.specs.Sizes.{messageLimit}
 use Rattle.payload.specs.Payload.{payload}
-use Rattle.grain128aead.specs.Demand2.{Sealing, Demand2}
 use Rattle.payload.proofs.Payload.{length-payload}
+use Rattle.grain128aead.specs.Sizes.{messageLimit}
+use Rattle.grain128aead.specs.Demand2.{Sealing, Demand2}
 
 limit-small : messageLimit + 8 < 2 ^ 63
 unfolding messageLimit

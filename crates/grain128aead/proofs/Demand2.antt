@@ -18,13 +18,13 @@ use Rattle.refusals.specs.Demand1.{Accepts}
 use Rattle.refusals.proofs.LastRow.{after, settled-last}
 use Rattle.startup.specs.Sizes.{keySize, nonceSize}
 use Rattle.payload.specs.Sizes.{tagSize}
-use Rattle.grain128aead.specs.Sizes.{adLimit, messageLimit}
 use Rattle.payload.specs.Payload.{ciphertext, deciphered, tag, payload, ciphertextPart, tagPart}
+use Rattle.payload.proofs.Payload.{ciphertextPart-joined, tagPart-joined, parts-join, ciphertextPart-bytes, lengths, length-deciphered, deciphered-bytes, length-tag, length-payload, deciphered-ciphertext, ciphertext-deciphered}
+use Rattle.grain128aead.specs.Sizes.{adLimit, messageLimit}
 use Rattle.grain128aead.specs.Order.{sizeRefusals}
 use Rattle.grain128aead.specs.Calls.{table, sealingRow, sealed, recovered, openingRow, opened, tagDiffers}
 use Rattle.grain128aead.specs.Demand1.{Demand1}
 use Rattle.grain128aead.specs.Demand2.{Legal, Makes, Sealing, Demand2}
-use Rattle.payload.proofs.Payload.{ciphertextPart-joined, tagPart-joined, parts-join, ciphertextPart-bytes, lengths, length-deciphered, deciphered-bytes, length-tag, length-payload, deciphered-ciphertext, ciphertext-deciphered}
 use Rattle.grain128aead.proofs.Demand1.{demand1}
 use Rattle.grain128aead.proofs.Settled.{sizesOf, opened-settled}
 use Rattle.grain128aead.proofs.Rows.{rows-clear, clear-rows, Authentic, tag-authentic, authentic-tag}

@@ -14,17 +14,17 @@ use Rattle.bits.proofs.Sum.{sum-comm, sum-twice}
 use Rattle.refusals.specs.declared.Refusal.the-variants.{TagDiffers}
 use Rattle.refusals.specs.Outcome.{Outcome, refused, success}
 use Rattle.payload.specs.Sizes.{tagSize}
-use Rattle.grain128aead.specs.Sizes.{adLimit}
 use Rattle.payload.specs.Payload.{ciphertext, deciphered, tag, payload, ciphertextPart, tagPart}
 use Rattle.payload.specs.Laws.{flippedRegisters}
+use Rattle.payload.proofs.AuthenticatedString.{unambiguous}
+use Rattle.payload.proofs.Payload.{ciphertextPart-joined, tagPart-joined, length-ciphertext, length-tag, under, length-under, ciphertext-flip, deciphered-flip, under-same}
+use Rattle.payload.proofs.Flips.{length-flippedRegisters, tag-flips}
+use Rattle.grain128aead.specs.Sizes.{adLimit}
 use Rattle.grain128aead.specs.Calls.{recovered, tagDiffers, opened}
 use Rattle.grain128aead.specs.Demand2.{Legal}
 use Rattle.grain128aead.specs.Demand3.{Distinct, Flipped, Agrees, Demand3}
-use Rattle.payload.proofs.AuthenticatedString.{unambiguous}
-use Rattle.payload.proofs.Payload.{ciphertextPart-joined, tagPart-joined, length-ciphertext, length-tag, under, length-under, ciphertext-flip, deciphered-flip, under-same}
 use Rattle.grain128aead.proofs.Rows.{Authentic, tag-authentic, authentic-tag}
 use Rattle.grain128aead.proofs.Demand2.{InOrder, legal-in-order, opening-tag, opening-in-order}
-use Rattle.payload.proofs.Flips.{length-flippedRegisters, tag-flips}
 
 -- A legal AD's length has two bytes at most.
 adLimit-coded : adLimit < 65536

@@ -18,23 +18,23 @@ use Rattle.refusals.specs.declared.Check.{Check}
 use Rattle.refusals.specs.declared.Check.the-variants.{Passed, Failed}
 use Rattle.refusals.specs.declared.Refusal.{Refusal}
 use Rattle.refusals.specs.declared.Refusal.the-variants.{TagDiffers}
-use Rattle.machine.specs.declared.engine.Engine.{Engine}
 use Rattle.refusals.specs.declared.Answer.the-variants.{Count, Refused}
 use Rattle.refusals.specs.Outcome.{outcome, refused, success, settled}
 use Rattle.refusals.proofs.Demand1.{decides}
 use Rattle.refusals.proofs.LastRow.{after, settled-last}
+use Rattle.machine.specs.declared.engine.Engine.{Engine}
 use Rattle.machine.specs.Machine.{State, run, crypt, decipher}
 use Rattle.machine.specs.Engine.{stateOf, CryptsAll}
 use Rattle.machine.proofs.Machine.{run-append}
 use Rattle.startup.specs.StartUp.{initialised}
 use Rattle.payload.specs.Sizes.{tagSize}
-use Rattle.grain128aead.specs.Sizes.{messageLimit}
 use Rattle.payload.specs.AuthenticatedString.{header, authenticated}
 use Rattle.payload.specs.Payload.{begun, ciphertext, deciphered, tag, payload, ciphertextPart, tagPart}
+use Rattle.payload.proofs.Payload.{lengths, length-ciphertext, length-payload, length-tag, length-deciphered, deciphered-bits, tagPart-is}
+use Rattle.grain128aead.specs.Sizes.{messageLimit}
 use Rattle.grain128aead.specs.Order.{order}
 use Rattle.grain128aead.specs.Calls.{rows, sealed, recovered, tagDiffers, opened}
 use Rattle.grain128aead.proofs.Demand1.{none-at-all}
-use Rattle.payload.proofs.Payload.{lengths, length-ciphertext, length-payload, length-tag, length-deciphered, deciphered-bits, tagPart-is}
 use Rattle.grain128aead.proofs.Rows.{NoneApplies, rows-clear, tag-authentic, authentic-tag}
 use Rattle.grain128aead.proofs.Settled.{sizesOf, check-rows, sealed-settled, opened-settled}
 

@@ -14,8 +14,8 @@ use Rattle.refusals.specs.declared.Refusal.the-variants.{KeySize, NonceSize, Ad
 use Rattle.refusals.specs.Refusals.{among}
 use Rattle.refusals.proofs.Rows.{quiet-none, quiet-row}
 use Rattle.startup.specs.Sizes.{keySize, nonceSize}
-use Rattle.grain128aead.specs.Sizes.{adLimit}
 use Rattle.payload.specs.Payload.{tag, tagPart}
+use Rattle.grain128aead.specs.Sizes.{adLimit}
 use Rattle.grain128aead.specs.Calls.{table, rows, recovered, tagDiffers}
 
 pub record NoneApplies (key nonce ad : List ℕ) (tooLong tooShort noRoom wrongTag : Bool) : Type 0 where

@@ -12,8 +12,8 @@ use Rattle.refusals.specs.Refusals.{among, check}
 use Rattle.refusals.specs.Outcome.{settled, judged}
 use Rattle.refusals.proofs.LastRow.{after, after-false, check-last}
 use Rattle.payload.specs.Sizes.{tagSize}
-use Rattle.grain128aead.specs.Sizes.{messageLimit}
 use Rattle.payload.specs.Payload.{payload}
+use Rattle.grain128aead.specs.Sizes.{messageLimit}
 use Rattle.grain128aead.specs.Order.{sizeRefusals, order}
 use Rattle.grain128aead.specs.Calls.{table, rows, sealed, recovered, tagDiffers, opened}
 

@@ -12,8 +12,8 @@ use Rattle.refusals.specs.Refusals.{Row, _when_, among}
 use Rattle.refusals.specs.Outcome.{Outcome, judged}
 use Rattle.startup.specs.Sizes.{keySize, nonceSize}
 use Rattle.payload.specs.Sizes.{tagSize}
-use Rattle.grain128aead.specs.Sizes.{adLimit, messageLimit}
 use Rattle.payload.specs.Payload.{payload, deciphered, tag, ciphertextPart, tagPart}
+use Rattle.grain128aead.specs.Sizes.{adLimit, messageLimit}
 use Rattle.grain128aead.specs.Order.{order}
 
 -- The rows, in their order. Rows 1 to 3 are the same for both calls; for the others a call says whether they apply.

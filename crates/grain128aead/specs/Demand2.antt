@@ -9,8 +9,8 @@ use Rattle.refusals.specs.Outcome.{Outcome, success}
 use Rattle.refusals.specs.Demand1.{Accepts}
 use Rattle.startup.specs.Sizes.{keySize, nonceSize}
 use Rattle.payload.specs.Sizes.{tagSize}
-use Rattle.grain128aead.specs.Sizes.{adLimit, messageLimit}
 use Rattle.payload.specs.Payload.{payload}
+use Rattle.grain128aead.specs.Sizes.{adLimit, messageLimit}
 
 -- All sizes are legal.
 pub record Legal (key nonce ad message : List ℕ) : Type 0 where

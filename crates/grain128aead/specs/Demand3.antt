@@ -9,9 +9,9 @@ use Rattle.bits.specs.Bytes.{Bytes, flip}
 use Rattle.refusals.specs.declared.Refusal.the-variants.{TagDiffers}
 use Rattle.refusals.specs.Outcome.{Outcome, success, refused}
 use Rattle.refusals.specs.Demand1.{Accepts}
-use Rattle.grain128aead.specs.Sizes.{adLimit}
 use Rattle.payload.specs.AuthenticatedString.{authenticated}
 use Rattle.payload.specs.Laws.{flippedRegisters}
+use Rattle.grain128aead.specs.Sizes.{adLimit}
 use Rattle.grain128aead.specs.Demand2.{Makes}
 
 -- Pairs of AD and message, the AD of legal size, that make the same authenticated string are the same pair.

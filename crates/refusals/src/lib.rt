@@ -26,6 +26,7 @@ pub enum Answer {
     Refused(Refusal),
 }
 
+// Document 01's number of a refusal.
 pub fn number(r: Refusal) -> u8
     ensures { λ n. ⌜ n ≡ refusals.number r ⌝ }
 {

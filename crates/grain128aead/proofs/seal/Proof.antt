@@ -6,8 +6,8 @@ use Prim.Native.Nat.{ℕ}
 use native.Mathlib.Omega.{arith}
 use borrow.Author.Needs.{needs}
 use Rattle.refusals.specs.Outcome.{Outcome}
-use Rattle.grain128aead.specs.Sizes.{messageLimit}
 use Rattle.payload.specs.Payload.{payload}
+use Rattle.grain128aead.specs.Sizes.{messageLimit}
 use Rattle.grain128aead.specs.Calls.{sealingRow, sealed}
 use Rattle.grain128aead.specs.Demand1.{Demand1}
 use Rattle.grain128aead.specs.Demand2.{Sealing}

@@ -4,11 +4,11 @@ use mathlib.Core.Path.{_≡_, sym, ap, _∙_}
 use mathlib.Core.Bool.{Bool, true, false, cond}
 use mathlib.Core.Logic.{⊎-elim}
 use Prim.Native.Nat.{ℕ}
+use borrow.Author.Needs.{needs}
 use Rattle.bits.specs.Bytes.{word}
 use Rattle.machine.specs.Machine.{run}
 use Rattle.machine.specs.Engine.{stateOf}
 use Rattle.machine.proofs.Bytewise.{byte-crypt}
-use borrow.Author.Needs.{needs}
 use Rattle.machine.proofs.engine.crypt_byte.Statement.{statement}
 use Rattle.machine.proofs.engine.crypt_byte.Tie as tie
 
