@@ -15,8 +15,8 @@ fn key_bit(key: &[u8], t: usize) -> u64
     requires { ⌜ t < 8 * length (now key) ⌝ }
     ensures { λ r. ⌜ r ≡ digit (places (bits (now (key .entry))) t) ⌝ }
 {
-    let byte = bits::wide(key[t / 8]);
-    (byte >> (7 - t % 8)) % 2
+    let byte = bits::wide(key[t >> 3]);
+    (byte >> (7 - (t & 7))) & 1
 }
 
 // The registers, with the pre-outputs of their clocks shifted into a word.

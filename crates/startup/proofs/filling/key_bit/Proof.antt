@@ -1,8 +1,10 @@
 -- `startup::filling::key_bit` meets its contract.
 -- Assumes nothing.
-use mathlib.Core.Path.{sym, ap, _∙_}
+use mathlib.Core.Path.{sym, ap, ap₂, _∙_}
 use Prim.Native.Nat.{ℕ, _-_, _/_, _%_, _^_}
+use native.Mathlib.Omega.{arith}
 use borrow.Author.Needs.{needs}
+use lib.Bits.{and-mask, mask-lt}
 use lib.ListN.{getD}
 use Rattle.bits.specs.Bit.{digit}
 use Rattle.bits.proofs.Lowest.{digit-lowest}
@@ -17,15 +19,16 @@ wide-requires : tie.Need-wide-requires
 wide-requires c κs = search needs
 
 sub-result : tie.Need-sub-result
-sub-result c = search needs
+sub-result c = omega (arith, mask-lt (c .before .before .before .args .t) 3)
 
 shr-result : tie.Need-shr-result
-shr-result c = search needs
+shr-result c = omega (arith, mask-lt (c .before .before .before .args .t) 3)
 
 returns : tie.Need-returns
 returns c =
     let a = c .before .before .before .args in
-    ap (λ (x : ℕ). x / 2 ^ (7 - a .t % 8) % 2) (c .wide .ensures)
+    and-mask _ 1
+    ∙ ap₂ (λ (x k : ℕ). x / 2 ^ (7 - k) % 2) (c .wide .ensures) (and-mask (a .t) 3)
     ∙ sym (ap digit (places-bits (a .key .now) (a .t) (c .before .before .before .pre)) ∙ digit-lowest (getD (a .key .now) (a .t / 8) 0 / 2 ^ (7 - a .t % 8)))
 
 pub key-bit-spec : {M : Type 1} → statement M
