@@ -2,7 +2,7 @@
 -- Assumes nothing.
 use mathlib.Core.Path.{_≡_, refl, sym, ap, ap₂, _∙_}
 use mathlib.Core.Bool.{Bool, cond}
-use mathlib.Core.List.{List, [], _++_}
+use mathlib.Core.List.{List, _++_}
 use Prim.Native.Nat.{ℕ, _+_, _-_, _≤_}
 use native.Mathlib.Omega.{arith}
 use borrow.Author.Tests.{ltb-false, le-ltb, eq-eqb}
@@ -19,7 +19,7 @@ use Rattle.refusals.proofs.LastRow.{after, settled-last}
 use Rattle.startup.specs.Sizes.{keySize, nonceSize}
 use Rattle.payload.specs.Sizes.{tagSize}
 use Rattle.payload.specs.Payload.{ciphertext, deciphered, tag, payload, ciphertextPart, tagPart}
-use Rattle.payload.proofs.Payload.{ciphertextPart-joined, tagPart-joined, parts-join, ciphertextPart-bytes, lengths, length-deciphered, deciphered-bytes, length-tag, length-payload, deciphered-ciphertext, ciphertext-deciphered}
+use Rattle.payload.proofs.Payload.{ciphertextPart-joined, tagPart-joined, parts, length-ciphertextPart, ciphertextPart-bytes, length-deciphered, deciphered-bytes, length-tag, length-payload, deciphered-ciphertext, ciphertext-deciphered}
 use Rattle.grain128aead.specs.Sizes.{adLimit, messageLimit}
 use Rattle.grain128aead.specs.Order.{sizeRefusals}
 use Rattle.grain128aead.specs.Calls.{table, sealingRow, sealed, recovered, openingRow, opened, tagDiffers}
@@ -121,11 +121,11 @@ module _ (key nonce ad input out : List ℕ) where
       keySized = o .keySized;
       nonceSized = o .nonceSized;
       adFits = o .adFits;
-      messageFits = omega (arith, length-deciphered key nonce ad (ciphertextPart input), lengths key nonce ad [] input .ciphertextPart (o .reaches), o .inputFits);
+      messageFits = omega (arith, length-deciphered key nonce ad (ciphertextPart input), length-ciphertextPart input (o .reaches), o .inputFits);
     };
     made =
-        ap₂ _++_ (ciphertext-deciphered key nonce ad (ciphertextPart input) (ciphertextPart-bytes input (o .reaches) b)) (sym authentic)
-        ∙ parts-join input (o .reaches);
+        ap₂ _++_ (ciphertext-deciphered key nonce ad (ciphertextPart input) (ciphertextPart-bytes input b)) (sym authentic)
+        ∙ parts input .together;
   }
 
   -- What a message makes hides that message, and is authentic.

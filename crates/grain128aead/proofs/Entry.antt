@@ -30,7 +30,7 @@ use Rattle.startup.specs.StartUp.{initialised}
 use Rattle.payload.specs.Sizes.{tagSize}
 use Rattle.payload.specs.AuthenticatedString.{header, authenticated}
 use Rattle.payload.specs.Payload.{begun, ciphertext, deciphered, tag, payload, ciphertextPart, tagPart}
-use Rattle.payload.proofs.Payload.{lengths, length-ciphertext, length-payload, length-tag, length-deciphered, deciphered-bits, tagPart-is}
+use Rattle.payload.proofs.Payload.{parts, length-ciphertextPart, length-ciphertext, length-payload, length-tag, length-deciphered, deciphered-bits, tagPart-is}
 use Rattle.grain128aead.specs.Sizes.{messageLimit}
 use Rattle.grain128aead.specs.Order.{order}
 use Rattle.grain128aead.specs.Calls.{rows, sealed, recovered, tagDiffers, opened}
@@ -180,7 +180,7 @@ module _ {key nonce ad input lent : List ℕ} {c : Check} (sizes : OpenChecked k
           (words .ran ∙ ap (λ (st : State). run st (decipher st (bits (ciphertextPart input)))) (words .began) ∙ ap (run (begun key nonce ad)) (sym (deciphered-bits key nonce ad (ciphertextPart input)))) (words .tagged)
 
       eight : length (tagPart input) ≡ 8
-      eight = lengths key nonce ad [] input .tagPart open-reaches
+      eight = parts input .whole open-reaches
 
       tag-bytes : Bytes (tagPart input)
       tag-bytes = rw (tagPart-is input open-reaches) (Bytes-drop (length input - tagSize) input (words .isBytes))
@@ -195,10 +195,10 @@ module _ {key nonce ad input lent : List ℕ} {c : Check} (sizes : OpenChecked k
           part = ciphertextPart input
 
           whole : CryptsAll false (stateOf b) part lent out last
-          whole = rw (take-all (length lent) part (omega (arith, lengths key nonce ad [] input .ciphertextPart open-reaches, open-room))) at crypted
+          whole = rw (take-all (length lent) part (omega (arith, length-ciphertextPart input open-reaches, open-room))) at crypted
 
           counted : length input - tagSize ≡ length (recovered key nonce ad input)
-          counted = sym (length-deciphered key nonce ad part ∙ lengths key nonce ad [] input .ciphertextPart open-reaches)
+          counted = sym (length-deciphered key nonce ad part ∙ length-ciphertextPart input open-reaches)
 
       pub open-differs : (r ≡ n → ⊥) → outcome (Refused TagDiffers) lent ≡ opened key nonce ad input lent
       open-differs differs = go (tagDiffers key nonce ad input) refl

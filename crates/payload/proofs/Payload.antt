@@ -1,12 +1,13 @@
 -- Payloads: the lengths of their pieces, the two parts of a sealed input, and the ciphertext as the message flipped by the keystream.
 -- Assumes nothing.
-use mathlib.Core.Path.{_≡_, refl, sym, ap, ap₂, _∙_}
+use mathlib.Core.Path.{_≡_, refl, sym, ap, ap₂, _∙_, subst}
 use mathlib.Core.Bool.{Bool, true, false}
-use mathlib.Core.List.{List, [], _++_}
+use mathlib.Core.List.{List, [], _++_, append-nil}
 use Prim.Native.Nat.{ℕ, _+_, _-_, _*_, _≤_, _<_}
 use native.Mathlib.Omega.{arith}
-use borrow.Author.Tests.{lt-ltb, le-ltb}
-use lib.ListN.{length, take, drop, length-append, take-append-drop, length-take, length-drop}
+use borrow.Author.Tests.{ltb-true, ltb-false, lt-ltb, le-ltb}
+use lib.Dec.{ltb}
+use lib.ListN.{length, take, drop, length-append, take-append-drop, length-drop}
 use lib.Seq.{take-at, drop-at}
 use Rattle.bits.specs.Bytes.{Bytes, bits, flip}
 use Rattle.bits.proofs.Packing.{length-bits, length-bytes, bytes-are-bytes, Bytes-take}
@@ -20,7 +21,7 @@ use Rattle.startup.specs.StartUp.{initialised}
 use Rattle.payload.specs.Sizes.{tagSize}
 use Rattle.payload.specs.AuthenticatedString.{codedLength, header}
 use Rattle.payload.specs.Payload.{begun, ciphertext, deciphered, tag, payload, ciphertextPart, tagPart}
-use Rattle.payload.specs.Laws.{Lengths}
+use Rattle.payload.specs.Laws.{Lengths, Parts}
 use Rattle.payload.proofs.AuthenticatedString.{length-authenticated}
 
 -- ---- the two parts of a sealed input
@@ -33,7 +34,7 @@ pub tagPart-is : (input : List ℕ) → tagSize ≤ length input → tagPart inp
 unfolding tagPart
 tagPart-is input h = simp (le-ltb (length input) tagSize h)
 
-pub ciphertextPart-short : (input : List ℕ) → length input < tagSize → ciphertextPart input ≡ []
+pub ciphertextPart-short : (input : List ℕ) → length input < tagSize → ciphertextPart input ≡ input
 unfolding ciphertextPart
 ciphertextPart-short input h = simp (lt-ltb (length input) tagSize h)
 
@@ -41,8 +42,28 @@ pub tagPart-short : (input : List ℕ) → length input < tagSize → tagPart in
 unfolding tagPart
 tagPart-short input h = simp (lt-ltb (length input) tagSize h)
 
-pub parts-join : (input : List ℕ) → tagSize ≤ length input → ciphertextPart input ++ tagPart input ≡ input
-parts-join input h = ap₂ _++_ (ciphertextPart-is input h) (tagPart-is input h) ∙ take-append-drop (length input - tagSize) input
+parts-join : (input : List ℕ) → ciphertextPart input ++ tagPart input ≡ input
+parts-join input = go (ltb (length input) tagSize) refl
+  where
+    go : (short : Bool) → ltb (length input) tagSize ≡ short → ciphertextPart input ++ tagPart input ≡ input
+    go true e = let h = ltb-true (length input) tagSize e in ap₂ _++_ (ciphertextPart-short input h) (tagPart-short input h) ∙ append-nil input
+    go false e = let h = ltb-false (length input) tagSize e in ap₂ _++_ (ciphertextPart-is input h) (tagPart-is input h) ∙ take-append-drop (length input - tagSize) input
+
+pub parts : (input : List ℕ) → Parts input
+parts input = record {
+  together = parts-join input;
+  lengths = sym (length-append (ciphertextPart input) (tagPart input)) ∙ ap length (parts-join input);
+  before = ap (take size) (sym (parts-join input)) ∙ take-at (ciphertextPart input) (tagPart input) size refl;
+  behind = ap (drop size) (sym (parts-join input)) ∙ drop-at (ciphertextPart input) (tagPart input) size refl;
+  whole = λ h. ap length (tagPart-is input h) ∙ omega (arith, length-drop (length input - tagSize) input);
+  short = tagPart-short input;
+}
+  where
+    size : ℕ
+    size = length (ciphertextPart input)
+
+pub length-ciphertextPart : (input : List ℕ) → tagSize ≤ length input → length (ciphertextPart input) ≡ length input - tagSize
+length-ciphertextPart input h = omega (arith, parts input .lengths, parts input .whole h)
 
 module _ (c t : List ℕ) (sized : length t ≡ tagSize) where
   joined-length : length c ≡ length (c ++ t) - tagSize
@@ -54,8 +75,8 @@ module _ (c t : List ℕ) (sized : length t ≡ tagSize) where
   pub tagPart-joined : tagPart (c ++ t) ≡ t
   tagPart-joined = tagPart-is (c ++ t) (omega (arith, length-append c t)) ∙ drop-at c t (length (c ++ t) - tagSize) joined-length
 
-pub ciphertextPart-bytes : (input : List ℕ) → tagSize ≤ length input → Bytes input → Bytes (ciphertextPart input)
-ciphertextPart-bytes input h b = rw (ciphertextPart-is input h) (Bytes-take (length input - tagSize) input b)
+pub ciphertextPart-bytes : (input : List ℕ) → Bytes input → Bytes (ciphertextPart input)
+ciphertextPart-bytes input b = subst Bytes (parts input .before) (Bytes-take (length (ciphertextPart input)) input b)
 
 -- ---- lengths
 
@@ -88,14 +109,12 @@ module _ (key nonce ad : List ℕ) where
   unfolding payload
   length-payload message = length-append (ciphertext key nonce ad message) (tag key nonce ad message) ∙ ap₂ _+_ (length-ciphertext message) (length-tag message)
 
-  pub lengths : (message input : List ℕ) → Lengths key nonce ad message input
-  lengths message input = record {
+  pub lengths : (message : List ℕ) → Lengths key nonce ad message
+  lengths message = record {
     string = length-authenticated ad message;
     ciphertext = length-ciphertext message;
     tag = length-tag message;
     payload = length-payload message;
-    ciphertextPart = λ h. ap length (ciphertextPart-is input h) ∙ omega (arith, length-take (length input - tagSize) input);
-    tagPart = λ h. ap length (tagPart-is input h) ∙ omega (arith, length-drop (length input - tagSize) input);
   }
 
   -- ---- the keystream under the message

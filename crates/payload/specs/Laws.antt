@@ -1,10 +1,10 @@
--- Laws of payloads: the lengths of every piece, what the authenticated string tells, the machine's laws under a key and a nonce, and what
--- flips do to the tag.
+-- Laws of payloads: the lengths of every piece, the two parts of a sealed input, what the authenticated string tells, the machine's laws
+-- under a key and a nonce, and what flips do to the tag.
 use mathlib.Core.Path.{_≡_}
 use mathlib.Core.Bool.{Bool, false}
 use mathlib.Core.List.{List, [], _∷_, _++_}
 use Prim.Native.Nat.{ℕ, _+_, _-_, _*_, _≤_, _<_}
-use lib.ListN.{length, getD}
+use lib.ListN.{length, take, drop, getD}
 use Rattle.bits.specs.Bytes.{Bytes, bits, flip}
 use Rattle.bits.specs.Bit.{_⊻_}
 use Rattle.bits.specs.Strings.{_⊞_, shift}
@@ -18,13 +18,21 @@ use Rattle.payload.specs.Sizes.{tagSize}
 use Rattle.payload.specs.AuthenticatedString.{codedLength, header, authenticated}
 use Rattle.payload.specs.Payload.{ciphertext, tag, payload, ciphertextPart, tagPart}
 
-pub record Lengths (key nonce ad message input : List ℕ) : Type 0 where
+pub record Lengths (key nonce ad message : List ℕ) : Type 0 where
   pub string : length (authenticated ad message) ≡ 8 * (length (codedLength (length ad)) + length ad + length message) + 1
   pub ciphertext : length (ciphertext key nonce ad message) ≡ length message
   pub tag : length (tag key nonce ad message) ≡ tagSize
   pub payload : length (payload key nonce ad message) ≡ length message + tagSize
-  pub ciphertextPart : tagSize ≤ length input → length (ciphertextPart input) ≡ length input - tagSize
-  pub tagPart : tagSize ≤ length input → length (tagPart input) ≡ tagSize
+
+-- The two parts of a sealed input of any length. Put together they are the input, so together they are as long as it; the tag part begins
+-- where the ciphertext part ends, and runs to the end. It is a whole tag, or empty where the input is too short to have one.
+pub record Parts (input : List ℕ) : Type 0 where
+  pub together : ciphertextPart input ++ tagPart input ≡ input
+  pub lengths : length (ciphertextPart input) + length (tagPart input) ≡ length input
+  pub before : take (length (ciphertextPart input)) input ≡ ciphertextPart input
+  pub behind : drop (length (ciphertextPart input)) input ≡ tagPart input
+  pub whole : tagSize ≤ length input → length (tagPart input) ≡ tagSize
+  pub short : length input < tagSize → tagPart input ≡ []
 
 -- Pairs of AD and message, each AD with a length of two bytes at most, that make the same authenticated string are the same pair.
 abbrev pub Unambiguous : Type 0

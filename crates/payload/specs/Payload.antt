@@ -28,10 +28,10 @@ tag key nonce ad message = bytes tagSize (run (initialised key nonce) (authentic
 unfoldable pub payload : (key nonce ad message : List ℕ) → List ℕ
 payload key nonce ad message = ciphertext key nonce ad message ++ tag key nonce ad message
 
--- The ciphertext part of a sealed input is all but its last 8 bytes, the tag part its last 8. Of an input of fewer than 8 bytes both
--- are empty.
+-- The ciphertext part of a sealed input is all but its last 8 bytes, the tag part its last 8. Of an input of fewer than 8 bytes the
+-- ciphertext part is the whole input, and the tag part is empty (document 02, C-21, which amends document 01 here).
 unfoldable pub ciphertextPart : (input : List ℕ) → List ℕ
-ciphertextPart input = cond (ltb (length input) tagSize) [] (take (length input - tagSize) input)
+ciphertextPart input = cond (ltb (length input) tagSize) input (take (length input - tagSize) input)
 
 unfoldable pub tagPart : (input : List ℕ) → List ℕ
 tagPart input = cond (ltb (length input) tagSize) [] (drop (length input - tagSize) input)

@@ -2,15 +2,12 @@
 ghost use mathlib.Core.Path.{_≡_};
 ghost use Rattle.payload.specs.Payload as payload;
 
-// All but the last 8 bytes of a sealed input; of an input of fewer than 8 bytes, nothing.
+// All but the last 8 bytes of a sealed input; of an input of fewer than 8 bytes, the whole input.
 pub fn ciphertext_part(input: &[u8]) -> &[u8]
     ensures { λ r. ⌜ now r ≡ payload.ciphertextPart (now (input .entry)) ⌝ }
 {
     let n = input.len();
-    if n < 8 {
-        return &input[..0];
-    }
-    let end = n - 8;
+    let end = if n < 8 { n } else { n - 8 };
     &input[..end]
 }
 

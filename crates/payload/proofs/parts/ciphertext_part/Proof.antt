@@ -1,25 +1,28 @@
 -- `payload::parts::ciphertext_part` meets its contract.
 -- Assumes nothing.
-use mathlib.Core.Path.{sym}
+use mathlib.Core.Path.{sym, ap, _∙_}
+use mathlib.Core.Logic.{⊎-elim}
+use Prim.Native.Nat.{ℕ}
 use native.Mathlib.Omega.{arith}
-use borrow.Author.Needs.{needs}
-use lib.Seq.{length-take-le}
+use lib.ListN.{length, take}
+use lib.Seq.{length-take-le, take-all}
 use Rattle.payload.proofs.Payload.{ciphertextPart-is, ciphertextPart-short}
 use Rattle.payload.proofs.parts.ciphertext_part.Statement.{statement}
 use Rattle.payload.proofs.parts.ciphertext_part.Tie as tie
 
 slice-aggregate-result : tie.Need-slice-aggregate-result
-slice-aggregate-result c = search needs
+slice-aggregate-result c =
+    let a = c .before in
+    sym (length-take-le _ (a .before .args .input .now) (⊎-elim (λ w. omega (arith, w .1)) (λ w. omega (arith, w .1)) (a .if1 .came)))
 
 returns : tie.Need-returns
-returns c = sym (ciphertextPart-short _ (c .before .if1 .taken))
-
-slice-aggregate-result-2 : tie.Need-slice-aggregate-result-2
-slice-aggregate-result-2 c = sym (length-take-le _ (c .before .before .args .input .now) (omega arith))
-
-returns-2 : tie.Need-returns-2
-returns-2 c = sym (ciphertextPart-is _ (c .before .if1 .left))
+returns c =
+    let a = c .before in
+    let s = a .before .args .input .now in
+    ⊎-elim
+    (λ w. ap (λ (end : ℕ). take end s) (w .1) ∙ take-all (length s) s (omega arith) ∙ sym (ciphertextPart-short s (omega (arith, w .0 .taken))))
+    (λ w. ap (λ (end : ℕ). take end s) (w .1) ∙ sym (ciphertextPart-is s (omega (arith, w .0 .left))))
+    (a .if1 .came)
 
 pub ciphertext-part-spec : {M : Type 1} → statement M
-ciphertext-part-spec =
-    tie.close (tie.spec slice-aggregate-result returns slice-aggregate-result-2 returns-2)
+ciphertext-part-spec = tie.close (tie.spec slice-aggregate-result returns)
