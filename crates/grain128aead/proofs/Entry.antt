@@ -39,7 +39,7 @@ use Rattle.grain128aead.proofs.Rows.{NoneApplies, rows-clear, tag-authe
 use Rattle.grain128aead.proofs.Settled.{sizesOf, check-rows, sealed-settled, opened-settled}
 
 -- A check that passed tells every size.
-sizes-clear : (key nonce ad : List ℕ) (tooLong tooShort noRoom : Bool) → sizesOf key nonce ad tooLong tooShort noRoom ≡ Passed → NoneApplies key nonce ad tooLong tooShort noRoom false
+pub sizes-clear : (key nonce ad : List ℕ) (tooLong tooShort noRoom : Bool) → sizesOf key nonce ad tooLong tooShort noRoom ≡ Passed → NoneApplies key nonce ad tooLong tooShort noRoom false
 sizes-clear key nonce ad tooLong tooShort noRoom e =
     rows-clear key nonce ad tooLong tooShort noRoom false
     (none-at-all key nonce ad tooLong tooShort noRoom false

@@ -4,3 +4,4 @@ pub mod Rows
 pub mod Demand2
 pub mod Demand3
 pub mod Entry
+pub mod ShortInput

@@ -1,16 +1,18 @@
 -- Demand 1 for sealing and opening: that of every call, at their order.
 use mathlib.Core.Path.{_≡_}
 use mathlib.Core.Logic.{_↔_}
-use mathlib.Core.Bool.{Bool, false}
+use mathlib.Core.Bool.{Bool, true, false}
 use mathlib.Core.List.{List, [], _∷_, map}
-use Prim.Native.Nat.{ℕ}
+use Prim.Native.Nat.{ℕ, _<_}
+use lib.ListN.{length}
 use Rattle.refusals.specs.declared.Refusal.{Refusal}
 use Rattle.refusals.specs.Refusals.{number}
-use Rattle.refusals.specs.Outcome.{Outcome}
+use Rattle.refusals.specs.Outcome.{Outcome, judged}
 use Rattle.refusals.specs.Demand1.{Accepts}
 use Rattle.refusals.specs.Demand1 as anyCall
+use Rattle.payload.specs.Sizes.{tagSize}
 use Rattle.grain128aead.specs.Order.{order}
-use Rattle.grain128aead.specs.Calls.{table}
+use Rattle.grain128aead.specs.Calls.{table, rows, opened}
 
 -- The order is that of document 01's table.
 abbrev pub Numbered : Type 0
@@ -27,3 +29,10 @@ Tabled =
 pub record Demand1 (applies : Refusal → Bool) (written out : List ℕ) (o : Outcome) : Type 0 where
   pub ordered : anyCall.Demand1 order applies written out o
   pub accepts : Accepts o ↔ ((r : Refusal) → applies r ≡ false)
+
+-- Opening an input too short to have a tag does not depend on its two parts: row 5 applies, and whatever is taken for the verdict on the
+-- tag and for the message, the outcome is the same.
+abbrev pub ShortInput : Type 0
+ShortInput =
+    (key nonce ad input out : List ℕ) → length input < tagSize → (wrongTag : Bool) (message : List ℕ)
+    → opened key nonce ad input out ≡ judged order (rows key nonce ad false true false wrongTag) message out

@@ -33,3 +33,10 @@ pub settled-last : (r : Refusal) (applies : Bool) (written out : List ℕ) → s
 unfolding settled
 settled-last r true written out = refl
 settled-last r false written out = refl
+
+-- Where an earlier row has failed, neither the last row nor what would be written matters.
+pub settled-earlier : (c : Check) (r : Refusal) (applies applies′ : Bool) (written written′ out : List ℕ) → (c ≡ Passed → ⊥)
+    → settled (after c r applies) written out ≡ settled (after c r applies′) written′ out
+unfolding settled
+settled-earlier Passed r applies applies′ written written′ out failed = absurd (failed refl)
+settled-earlier (Failed q) r applies applies′ written written′ out failed = refl
