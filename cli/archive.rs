@@ -1,4 +1,4 @@
-//! The two calls of the archive, each as a safe function, and the sizes that
+//! The calls of the archive, each as a safe function, and the sizes that
 //! `include/tikhoplav.h` names.
 
 pub const KEY_SIZE: usize = 16;
@@ -35,6 +35,8 @@ extern "C" {
         out: *mut u8,
         out_len: usize,
     ) -> i64;
+
+    fn tikhoplav_ciphertext_size(sealed: *const u8, sealed_len: usize) -> i64;
 }
 
 /// Seals a message to the front of `out`. Answers the count of bytes written, or minus the number
@@ -76,6 +78,13 @@ pub fn open(key: &[u8], nonce: &[u8], ad: &[u8], sealed: &[u8], out: &mut [u8]) 
             out.len(),
         )
     }
+}
+
+/// The ciphertext part and the tag part of a sealed input.
+pub fn parts(sealed: &[u8]) -> (&[u8], &[u8]) {
+    // SAFETY: the pointer goes with its slice's length.
+    let size = unsafe { tikhoplav_ciphertext_size(sealed.as_ptr(), sealed.len()) };
+    sealed.split_at(usize::try_from(size).expect("a length is 0 or more"))
 }
 
 #[derive(Clone, Copy, Debug, PartialEq, Eq)]

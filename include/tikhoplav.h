@@ -1,5 +1,5 @@
 /*
- * Tikhoplav: Grain-128AEAD, first edition. Sealing and opening of whole byte strings.
+ * Tikhoplav: Grain-128AEAD, first edition. Sealing and opening of whole byte strings; the two parts of a sealed one.
  *
  * Sealing enciphers a message under a key and a nonce, and appends a tag over the message and its associated data
  * (AD). Opening recomputes the tag, and hands out the message only if the tag is right. The AD is authenticated and
@@ -17,7 +17,7 @@
  * What the caller owes
  *
  *   - Each pointer leads to as many bytes as the length after it says: readable, and for `out` writable.
- *   - `out` overlaps none of the four inputs. (The inputs are only read, and may overlap one another.)
+ *   - `out` overlaps none of the call's inputs. (The inputs are only read, and may overlap one another.)
  *   - A nonce is never used for two sealings under one key. If it is, secrecy is lost, and no call can notice it.
  *
  *   A slice of length 0 may have any pointer, NULL included: nothing is read or written through it. So an empty AD is
@@ -25,10 +25,12 @@
  *
  * What a call answers
  *
- *   Success is the count of bytes written, 0 or more. They stand at the front of `out`; every byte of `out` behind
- *   them is untouched. A refusal is one of the negative numbers below, and then every byte of `out` is as it was before
- *   the call. In particular a wrong tag hands out no bit of the message: nothing is written until the tag is known to
- *   be right.
+ *   Sealing and opening: success is the count of bytes written, 0 or more. They stand at the front of `out`; every byte
+ *   of `out` behind them is untouched. A refusal is one of the negative numbers below, and then every byte of `out` is
+ *   as it was before the call. In particular a wrong tag hands out no bit of the message: nothing is written until the
+ *   tag is known to be right.
+ *
+ *   tikhoplav_ciphertext_size: a length, 0 or more. It refuses nothing and writes nothing.
  *
  * What is not promised
  *
@@ -63,7 +65,7 @@
 extern "C" {
 #endif
 
-#define TIKHOPLAV_VERSION "1.0.0"
+#define TIKHOPLAV_VERSION "1.1.0"
 
 /* Sizes in bytes. A key and a nonce have exactly these; a sealed payload ends with exactly such a tag. */
 #define TIKHOPLAV_KEY_SIZE 16
@@ -77,8 +79,8 @@ extern "C" {
 #define TIKHOPLAV_SEALED_MAX (TIKHOPLAV_MESSAGE_MAX + TIKHOPLAV_TAG_SIZE)
 
 /*
- * Refusals. The checks run in this order, and the first that applies is the answer: a call with a short key and a long
- * nonce answers -1, and an output that is too short answers -6 even where the tag is wrong too.
+ * Refusals of sealing and opening. The checks run in this order, and the first that applies is the answer: a call with
+ * a short key and a long nonce answers -1, and an output that is too short answers -6 even where the tag is wrong too.
  */
 
 /* key_len is not TIKHOPLAV_KEY_SIZE. */
@@ -129,6 +131,21 @@ int64_t tikhoplav_seal(const uint8_t *key, size_t key_len, const uint8_t *nonce,
 int64_t tikhoplav_open(const uint8_t *key, size_t key_len, const uint8_t *nonce, size_t nonce_len,
                        const uint8_t *ad, size_t ad_len, const uint8_t *sealed, size_t sealed_len,
                        uint8_t *out, size_t out_len);
+
+/*
+ * The two parts of sealed[0 .. sealed_len - 1], of any length, whole or cut short: answers the length n of the
+ * ciphertext part. The tag part begins behind it and runs to the end.
+ *
+ *     ciphertext part = the n bytes at sealed
+ *     tag part        = the sealed_len - n bytes at sealed + n
+ *
+ * If sealed_len is at least TIKHOPLAV_TAG_SIZE, the tag part is the last TIKHOPLAV_TAG_SIZE bytes, so n is sealed_len -
+ * TIKHOPLAV_TAG_SIZE. Otherwise the input is too short to have a tag: the ciphertext part is the whole input, the tag
+ * part is empty, and n is sealed_len. No other input has n == sealed_len.
+ *
+ * No tag is checked and nothing is deciphered. Opening an input too short to have a tag is still SEALED_TOO_SHORT.
+ */
+int64_t tikhoplav_ciphertext_size(const uint8_t *sealed, size_t sealed_len);
 
 #ifdef __cplusplus
 }

@@ -1,4 +1,4 @@
-/* The two calls as firmware makes them: through the header alone, on buffers of exactly the stated sizes. Compiles as
+/* The calls as firmware makes them: through the header alone, on buffers of exactly the stated sizes. Compiles as
    C and as C++. */
 #include <stdio.h>
 #include <stdlib.h>
@@ -232,6 +232,35 @@ static void refusals_of_opening(void)
     release(&j);
 }
 
+/* The tag is the last 8 bytes, and a shorter input has none: its ciphertext part is the whole input. */
+static void sizes_of_ciphertexts(void)
+{
+    static const int64_t expected[] = { 0, 1, 2, 3, 4, 5, 6, 7, 0, 1, 2, 3, 4, 5, 6, 7, 8, 9, 10, 11, 12 };
+    size_t len;
+    slice sealed;
+
+    for (len = 0; len < sizeof expected / sizeof *expected; len++) {
+        sealed = counting(len, 0);
+        CHECK(tikhoplav_ciphertext_size(sealed.bytes, sealed.len) == expected[len]);
+        free(sealed.bytes);
+    }
+    sealed = counting(TIKHOPLAV_SEALED_MAX + 1, 0);
+    CHECK(tikhoplav_ciphertext_size(sealed.bytes, sealed.len) == TIKHOPLAV_MESSAGE_MAX + 1);
+    free(sealed.bytes);
+}
+
+static void opening_short_inputs(void)
+{
+    size_t len;
+    job j = sealing(4, 0);
+
+    for (len = 0; len < TIKHOPLAV_TAG_SIZE; len++) {
+        resize(&j.data, len);
+        refused(tikhoplav_open, &j, TIKHOPLAV_REFUSED_SEALED_TOO_SHORT);
+    }
+    release(&j);
+}
+
 static void null_pointers_of_length_zero(void)
 {
     job j = sealing(0, 0), none;
@@ -251,6 +280,7 @@ static void null_pointers_of_length_zero(void)
     CHECK(run(tikhoplav_open, &none) == TIKHOPLAV_REFUSED_NONCE_SIZE);
     none.key = NOTHING;
     CHECK(run(tikhoplav_seal, &none) == TIKHOPLAV_REFUSED_KEY_SIZE);
+    CHECK(tikhoplav_ciphertext_size(NULL, 0) == 0);
     release(&j);
 }
 
@@ -281,6 +311,8 @@ int main(void)
     longer_outputs();
     refusals_of_sealing();
     refusals_of_opening();
+    opening_short_inputs();
+    sizes_of_ciphertexts();
     null_pointers_of_length_zero();
     printf("%u checks hold\n", checks);
     return 0;

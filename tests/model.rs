@@ -187,6 +187,14 @@ pub fn seal(
     Ok([bytes(&ciphertext), finish(machine)].concat())
 }
 
+/// The ciphertext part and the tag part of a sealed input.
+pub fn parts(sealed: &[u8]) -> (&[u8], &[u8]) {
+    match sealed.len() {
+        0..=7 => (sealed, &[]),
+        length => sealed.split_at(length - 8),
+    }
+}
+
 /// The message, or the number of the refusal, where the output has `room` bytes.
 pub fn open(
     key: &[u8],
@@ -203,7 +211,7 @@ pub fn open(
         (5, sealed.len() < 8),
         (6, room + 8 < sealed.len()),
     ])?;
-    let (ciphertext, tag) = sealed.split_at(sealed.len() - 8);
+    let (ciphertext, tag) = parts(sealed);
     let mut machine = begin(key, nonce, ad);
     let mut message = bits(ciphertext);
     for bit in &mut message {

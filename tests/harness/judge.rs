@@ -28,7 +28,7 @@ impl Judge {
         ))
     }
 
-    /// Something that needs no call of the archive.
+    /// Something beside what sealing and opening do.
     pub fn holds(&mut self, what: &str, holds: bool) -> Verdict {
         self.comparisons += 1;
         if holds {

@@ -5,6 +5,7 @@ mod flips;
 mod judge;
 mod order;
 mod outputs;
+mod parts;
 mod random;
 mod sizes;
 mod trial;
@@ -18,7 +19,7 @@ const SEED: u64 = 128;
 
 type Group = fn(&mut Judge) -> Verdict;
 
-const GROUPS: [(&str, Group); 15] = [
+const GROUPS: [(&str, Group); 16] = [
     ("published vectors, on the model", vectors::published),
     (
         "stored answers of the selftest, on the model",
@@ -27,6 +28,7 @@ const GROUPS: [(&str, Group); 15] = [
     ("small sizes", sizes::small),
     ("sizes at the limits", sizes::limits),
     ("sealed inputs short and long", sizes::sealed_inputs),
+    ("parts of sealed inputs", parts::run),
     ("sizes of keys and nonces", sizes::keys_and_nonces),
     ("random sizes", sizes::random),
     ("outputs short, exact and longer", outputs::run),

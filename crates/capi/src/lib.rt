@@ -1,5 +1,9 @@
-// Sealing and opening for C: plain numbers and byte slices. A success is the count, refusal n is minus n.
+// The calls for C: plain numbers and byte slices. A success is the count, refusal n is minus n.
+ghost use mathlib.Core.Path.{_≡_};
+ghost use lib.IntN.{pos};
+ghost use lib.ListN.{length};
 ghost use Rattle.refusals.specs.Signed.{Returns};
+ghost use Rattle.payload.specs.Payload as payload;
 ghost use Rattle.grain128aead.specs.Calls as calls;
 
 #[no_mangle]
@@ -26,4 +30,13 @@ pub extern "C" fn tikhoplav_open(
     ensures { λ r. ⌜ Returns (calls.opened (now (key .entry)) (now (nonce .entry)) (now (ad .entry)) (now (sealed .entry)) (now (out .entry))) r (now (out .exit)) ⌝ }
 {
     refusals::signed(grain128aead::open(key, nonce, ad, sealed, out))
+}
+
+// The length of the ciphertext part. The tag part begins behind it, and runs to the end.
+#[no_mangle]
+pub extern "C" fn tikhoplav_ciphertext_size(sealed: &[u8]) -> i64
+    ensures { λ r. ⌜ r ≡ pos (length (payload.ciphertextPart (now (sealed .entry)))) ⌝ }
+{
+    let part = payload::parts::ciphertext_part(sealed);
+    part.len() as i64
 }
