@@ -1,10 +1,11 @@
-//! What `seal` and `open` are given, read from where the options say.
+//! What the commands are given, read from where the options say.
 
 use crate::failure::Failure;
 use crate::options::Options;
 use crate::streams;
 use tikhoplav::hex;
 
+/// What `seal` and `open` are given.
 pub struct Inputs {
     pub key: Vec<u8>,
     pub nonce: Vec<u8>,
@@ -40,7 +41,8 @@ fn either(options: &Options, as_hex: &str, as_file: &str) -> Result<Option<Vec<u
     }
 }
 
-fn data(options: &Options) -> Result<Vec<u8>, Failure> {
+/// What `--in` or standard input holds, as bytes or in hex.
+pub fn data(options: &Options) -> Result<Vec<u8>, Failure> {
     let bytes = match options.value("--in") {
         Some(path) if path != "-" => streams::read_file("--in", path)?,
         _ => streams::read_stdin()?,

@@ -4,12 +4,13 @@ mod crypt;
 mod failure;
 mod inputs;
 mod options;
+mod parts;
 mod refusal;
 mod selftest;
 mod streams;
 
 use failure::Failure;
-use options::Options;
+use options::{Known, Options};
 use std::ffi::OsString;
 use std::process::ExitCode;
 use tikhoplav::archive::Call;
@@ -33,8 +34,9 @@ fn run(arguments: &[OsString]) -> Result<(), Failure> {
         return Err(Failure::Usage("no command".to_string()));
     };
     match command.to_str() {
-        Some("seal") => crypt(Call::Seal, rest),
-        Some("open") => crypt(Call::Open, rest),
+        Some("seal") => with_options(&options::SEAL_AND_OPEN, rest, |o| crypt::run(Call::Seal, o)),
+        Some("open") => with_options(&options::SEAL_AND_OPEN, rest, |o| crypt::run(Call::Open, o)),
+        Some("parts") => with_options(&options::PARTS, rest, parts::run),
         Some("selftest") => alone(rest).and_then(|()| selftest::run()),
         Some("--help" | "-h" | "help") => streams::write_stdout(HELP.as_bytes()),
         Some("--version" | "-V") => streams::write_stdout(VERSION.as_bytes()),
@@ -45,12 +47,17 @@ fn run(arguments: &[OsString]) -> Result<(), Failure> {
     }
 }
 
-fn crypt(call: Call, arguments: &[OsString]) -> Result<(), Failure> {
-    let options = Options::parse(arguments)?;
+/// Runs a command on its options, or shows the help where they ask for it.
+fn with_options(
+    known: &Known,
+    arguments: &[OsString],
+    command: impl Fn(&Options) -> Result<(), Failure>,
+) -> Result<(), Failure> {
+    let options = Options::parse(known, arguments)?;
     if options.has("--help") {
         return streams::write_stdout(HELP.as_bytes());
     }
-    crypt::run(call, &options)
+    command(&options)
 }
 
 fn alone(rest: &[OsString]) -> Result<(), Failure> {

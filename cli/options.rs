@@ -1,22 +1,34 @@
-//! The options of `seal` and `open`.
+//! The options of the commands.
 
 use crate::failure::Failure;
 use std::collections::{BTreeMap, BTreeSet};
 use std::ffi::{OsStr, OsString};
 use std::os::unix::ffi::OsStrExt;
 
-const WITH_VALUE: [&str; 8] = [
-    "--key",
-    "--key-file",
-    "--nonce",
-    "--nonce-file",
-    "--ad",
-    "--ad-file",
-    "--in",
-    "--out",
-];
+/// The options that a command knows.
+pub struct Known {
+    with_value: &'static [&'static str],
+    alone: &'static [&'static str],
+}
 
-const ALONE: [&str; 3] = ["--hex-in", "--hex-out", "--help"];
+pub const SEAL_AND_OPEN: Known = Known {
+    with_value: &[
+        "--key",
+        "--key-file",
+        "--nonce",
+        "--nonce-file",
+        "--ad",
+        "--ad-file",
+        "--in",
+        "--out",
+    ],
+    alone: &["--hex-in", "--hex-out", "--help"],
+};
+
+pub const PARTS: Known = Known {
+    with_value: &["--in"],
+    alone: &["--hex-in", "--help"],
+};
 
 #[derive(Default)]
 pub struct Options {
@@ -26,20 +38,20 @@ pub struct Options {
 
 impl Options {
     /// Reads `--name value`, `--name=value` and `--name`, each at most once.
-    pub fn parse(arguments: &[OsString]) -> Result<Options, Failure> {
+    pub fn parse(known: &Known, arguments: &[OsString]) -> Result<Options, Failure> {
         let mut options = Options::default();
         let mut rest = arguments.iter();
         while let Some(argument) = rest.next() {
             let (name, attached) = split(argument);
-            let fresh = if let Some(known) = find(&ALONE, name) {
+            let fresh = if let Some(switch) = find(known.alone, name) {
                 if attached.is_some() {
-                    return usage(format!("{known} takes no value"));
+                    return usage(format!("{switch} takes no value"));
                 }
-                options.switches.insert(known)
-            } else if let Some(known) = find(&WITH_VALUE, name) {
+                options.switches.insert(switch)
+            } else if let Some(option) = find(known.with_value, name) {
                 let value = attached.or_else(|| rest.next().map(OsString::as_os_str));
-                let value = present(known, value, attached.is_some())?;
-                options.values.insert(known, value.to_owned()).is_none()
+                let value = present(option, value, attached.is_some())?;
+                options.values.insert(option, value.to_owned()).is_none()
             } else {
                 return usage(unknown(name));
             };

@@ -31,7 +31,8 @@ pub fn sentence(call: Call, inputs: &Inputs, number: u8) -> String {
     }
 }
 
-fn count(bytes: usize) -> String {
+/// A count of bytes in words.
+pub fn count(bytes: usize) -> String {
     match bytes {
         1 => "1 byte".to_string(),
         _ => format!("{bytes} bytes"),

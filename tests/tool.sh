@@ -90,6 +90,37 @@ file_in_place() {
   check "sealed and opened in place" [ "$(cat log)" = "engine 2400 rpm" ]
 }
 
+parts() {
+  local all=000102030405060708090a0b0c0d0e0f10111213 ciphertext tag said
+  printf '\x00\x01\x02\x03\x04\x05\x06\x07\x08\x09\x0a\x0b\x0c\x0d\x0e\x0f\x10\x11\x12\x13' >whole
+  for size in {0..20}; do
+    ciphertext=${all:0:2*size} tag='' said="$size bytes"
+    [ "$size" != 1 ] || said="1 byte"
+    if [ "$size" -ge 8 ]; then
+      ciphertext=${all:0:2*(size - 8)} tag=${all:2*(size - 8):16}
+    fi
+    head -c "$size" whole >sealed
+    run 0 parts --in sealed
+    check "both parts of $size bytes" cmp output <(printf '%s\n' "$ciphertext" "$tag")
+    echo "${all:0:2*size}" >input
+    run 0 parts --hex-in
+    check "both parts of $size bytes in hex" cmp output <(printf '%s\n' "$ciphertext" "$tag")
+    if [ "$size" -ge 8 ]; then
+      check "$size bytes have a tag" [ ! -s errors ]
+      continue
+    fi
+    check "$size bytes have no tag" \
+      [ "$(cat errors)" = "tikhoplav: too short to have a tag: the sealed input is $said, and a tag alone is 8" ]
+    refuses 5 "the sealed input is $said, and its tag alone is 8" open "${secrets[@]}" --hex-in
+  done
+  bytes 40000 | tr '\0' 'a' >sealed
+  run 0 parts --in sealed
+  check "both parts of 40000 bytes" cmp output <(printf '%s\n' "$(yes 61 | head -n 39992 | tr -d '\n')" 6161616161616161)
+  cp output input
+  run 0 parts --hex-in --in -
+  check "both lines together are the input" cmp output input
+}
+
 refusals() {
   bytes 20 >input
   refuses 1 "the key is 15 bytes, and must be 16" seal --key "${key%??}" --nonce "$nonce"00
@@ -116,6 +147,10 @@ wrong_usage() {
   misused "unknown option '--kee'" seal --kee "$key"
   misused "unexpected argument 'log.bin'" seal "${secrets[@]}" log.bin
   misused "unexpected argument 'twice'" selftest twice
+  misused "unknown option '--key'" parts --key "$key"
+  misused "unknown option '--out'" parts --out parts.txt
+  misused "unexpected argument 'log.sealed'" parts log.sealed
+  misused "--in: no file 'absent'" parts --in absent
   misused "--key or --key-file is needed" seal --nonce "$nonce"
   misused "--nonce or --nonce-file is needed" open --key "$key"
   misused "--key and --key-file exclude each other" seal "${secrets[@]}" --key-file key
@@ -130,11 +165,13 @@ wrong_usage() {
   misused "--ad-file: no file 'absent'" seal "${secrets[@]}" --ad-file absent
   echo "no hex" >input
   misused "--hex-in: 'n' at place 1 is no hex digit" open "${secrets[@]}" --hex-in
+  misused "--hex-in: 'n' at place 1 is no hex digit" parts --hex-in
 }
 
 input_and_output_fail() {
   : >input
   fails_to "read '.'" seal "${secrets[@]}" --in .
+  fails_to "read '.'" parts --in .
   fails_to "write 'absent/out'" seal "${secrets[@]}" --out absent/out
   fails_to "write '/dev/full'" seal "${secrets[@]}" --out /dev/full
   local status=0
@@ -147,8 +184,10 @@ help_and_selftest() {
   run 0 --help
   check "--help shows the usage" grep -q "^usage: tikhoplav seal" output
   cp output help
-  run 0 seal --help
-  check "seal --help" cmp help output
+  for command in seal open parts; do
+    run 0 "$command" --help
+    check "$command --help" cmp help output
+  done
   bytes 500 >log.bin
   bytes 16 >lab.key
   bytes 12 >0001.nonce
@@ -156,6 +195,8 @@ help_and_selftest() {
   check "the examples of --help" env PATH="$(dirname "$tool"):$PATH" sh -e examples >shown
   check "the example in hex" grep -qE '^[0-9a-f]{46}$' shown
   check "the example of a file" cmp log.bin log.copy
+  run 0 parts --in log.sealed
+  check "the example of the parts" cmp output <(tail -n 2 shown)
   run 0 --version
   check "--version" [ "$(cat output)" = "tikhoplav $version" ]
   run 0 selftest
@@ -165,6 +206,7 @@ help_and_selftest() {
 round_trips
 hex
 file_in_place
+parts
 refusals
 wrong_usage
 input_and_output_fail
