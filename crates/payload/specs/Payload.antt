@@ -29,7 +29,7 @@ unfoldable pub payload : (key nonce ad message : List ℕ) → List ℕ
 payload key nonce ad message = ciphertext key nonce ad message ++ tag key nonce ad message
 
 -- The ciphertext part of a sealed input is all but its last 8 bytes, the tag part its last 8. Of an input of fewer than 8 bytes the
--- ciphertext part is the whole input, and the tag part is empty (document 02, C-21, which amends document 01 here).
+-- ciphertext part is the whole input, and the tag part is empty (document 02, C-21).
 unfoldable pub ciphertextPart : (input : List ℕ) → List ℕ
 ciphertextPart input = cond (ltb (length input) tagSize) input (take (length input - tagSize) input)
 
