@@ -143,7 +143,8 @@ int64_t tikhoplav_open(const uint8_t *key, size_t key_len, const uint8_t *nonce,
  * TIKHOPLAV_TAG_SIZE. Otherwise the input is too short to have a tag: the ciphertext part is the whole input, the tag
  * part is empty, and n is sealed_len. No other input has n == sealed_len.
  *
- * No tag is checked and nothing is deciphered. Opening an input too short to have a tag is still SEALED_TOO_SHORT.
+ * No tag is checked and nothing is deciphered. tikhoplav_open refuses an input too short to have a tag, with
+ * SEALED_TOO_SHORT unless an earlier check applies.
  */
 int64_t tikhoplav_ciphertext_size(const uint8_t *sealed, size_t sealed_len);
 
