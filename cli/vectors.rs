@@ -22,8 +22,8 @@ pub struct Published {
 /// the final 1:
 ///
 /// ```text
-/// 82 00 80 00 .. 00  1
-/// 02 80 80 00 .. 00  1
+/// 81 80 00 .. 00  1
+/// 01 00 00 .. 00  1
 /// 00  1
 /// ```
 pub struct Summand {
@@ -62,7 +62,7 @@ pub const PUBLISHED: [Published; 2] = [
         tag: 0xaab555c073e67664,
         summands: [
             summand(&[], 128, 0),
-            summand(&[0x80, 0x80], 2, 128),
+            summand(&[], 1, 128),
             summand(&[], 0, 0),
         ],
     },
@@ -76,7 +76,7 @@ pub const PUBLISHED: [Published; 2] = [
         tag: 0x782f4c4a8907ba7f,
         summands: [
             summand(&[], 128, 0),
-            summand(&[0x00, 0x80], 125, 5),
+            summand(&[0x80], 126, 3),
             summand(&[], 0, 0),
         ],
     },
@@ -105,8 +105,8 @@ pub const SEALED: [Sealed; 9] = [
     sealed(1, 0, "06caa4e3901529b6"),
     sealed(8, 16, "47fd828e70ea670e6ebe4f5a8e9c9437a7da12cc950440d2"),
     sealed(127, 3, "a28985ecba39968627ff89"),
-    sealed(128, 3, "96262f5585347811a8dfd5"),
-    sealed(255, 5, "d652de1645665fec242f8d7a9a"),
+    sealed(128, 3, "879725b1c85dad6c351e4d"),
+    sealed(255, 5, "bfd751df1134fb8775300b3be8"),
     sealed(256, 5, "53dd1742b35db39776db2d3b69"),
     sealed(4096, 32768, "0b1f0abffc41bf1ddedab85dac5d3be1"),
 ];

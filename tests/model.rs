@@ -136,14 +136,15 @@ fn number(places: &[u8; 64]) -> u64 {
 pub fn coded_length(ad_len: usize) -> Vec<u8> {
     match ad_len {
         0..=127 => vec![ad_len as u8],
+        128..=255 => vec![0x81, ad_len as u8],
         _ => vec![0x82, (ad_len / 256) as u8, (ad_len % 256) as u8],
     }
 }
 
 /// The machine where the message begins.
-fn begin(key: &[u8], nonce: &[u8], ad: &[u8]) -> Machine {
+fn begin(key: &[u8], nonce: &[u8], coded_length: &[u8], ad: &[u8]) -> Machine {
     let mut machine = Machine::start(key, nonce);
-    machine.absorb_bytes(&coded_length(ad.len()));
+    machine.absorb_bytes(coded_length);
     machine.absorb_bytes(ad);
     machine
 }
@@ -177,14 +178,25 @@ pub fn seal(
         (4, message.len() > 32768),
         (6, room < message.len() + 8),
     ])?;
-    let mut machine = begin(key, nonce, ad);
+    Ok(payload(key, nonce, &coded_length(ad.len()), ad, message))
+}
+
+/// The payload in whose authenticated string the AD's length is coded so.
+pub fn payload(
+    key: &[u8],
+    nonce: &[u8],
+    coded_length: &[u8],
+    ad: &[u8],
+    message: &[u8],
+) -> Vec<u8> {
+    let mut machine = begin(key, nonce, coded_length, ad);
     let mut ciphertext = bits(message);
     for bit in &mut ciphertext {
         let message_bit = *bit;
         *bit ^= machine.preoutput();
         machine.absorb(message_bit);
     }
-    Ok([bytes(&ciphertext), finish(machine)].concat())
+    [bytes(&ciphertext), finish(machine)].concat()
 }
 
 /// The ciphertext part and the tag part of a sealed input.
@@ -212,7 +224,7 @@ pub fn open(
         (6, room + 8 < sealed.len()),
     ])?;
     let (ciphertext, tag) = parts(sealed);
-    let mut machine = begin(key, nonce, ad);
+    let mut machine = begin(key, nonce, &coded_length(ad.len()), ad);
     let mut message = bits(ciphertext);
     for bit in &mut message {
         *bit ^= machine.preoutput();

@@ -1,3 +1,4 @@
+pub mod CodedLength
 pub mod AuthenticatedString
 pub mod Payload
 pub mod Machine

@@ -1,4 +1,4 @@
--- Document 01's starred examples.
+-- Document 01's starred examples; 3 and 4 as document 02 (C-12) has them.
 use mathlib.Core.Path.{_≡_}
 use mathlib.Core.Bool.{Bool, true, false}
 use mathlib.Core.List.{List, [], _∷_, map, foldl}
@@ -40,8 +40,8 @@ abbrev pub examples : List Example
 examples =
     record { number = 1; computed = codedLength 0; expected = 0x00 ∷ [] }
     ∷ record { number = 2; computed = codedLength 127; expected = 0x7F ∷ [] }
-    ∷ record { number = 3; computed = codedLength 128; expected = 0x82 ∷ 0x00 ∷ 0x80 ∷ [] }
-    ∷ record { number = 4; computed = codedLength 255; expected = 0x82 ∷ 0x00 ∷ 0xFF ∷ [] }
+    ∷ record { number = 3; computed = codedLength 128; expected = 0x81 ∷ 0x80 ∷ [] }
+    ∷ record { number = 4; computed = codedLength 255; expected = 0x81 ∷ 0xFF ∷ [] }
     ∷ record { number = 5; computed = codedLength 256; expected = 0x82 ∷ 0x01 ∷ 0x00 ∷ [] }
     ∷ record { number = 6; computed = codedLength 4096; expected = 0x82 ∷ 0x10 ∷ 0x00 ∷ [] }
     ∷ record { number = 7; computed = digits (authenticated [] []); expected = 0 ∷ 0 ∷ 0 ∷ 0 ∷ 0 ∷ 0 ∷ 0 ∷ 0 ∷ 1 ∷ [] }

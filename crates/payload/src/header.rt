@@ -15,6 +15,9 @@ pub fn absorb_length(e: Engine, n: usize) -> Engine
     if n <= 127 {
         return engine::absorb_byte(e, n as u8);
     }
+    if n <= 255 {
+        return engine::absorb_byte(engine::absorb_byte(e, 0x81), n as u8);
+    }
     let marked = engine::absorb_byte(e, 0x82);
     let high = engine::absorb_byte(marked, (n / 256 % 256) as u8);
     engine::absorb_byte(high, (n % 256) as u8)
