@@ -6,6 +6,11 @@ use tikhoplav::archive::{Call, AD_MAX, KEY_SIZE, MESSAGE_MAX, NONCE_SIZE, SEALED
 const WRONG_TAG: &str = "the tag is wrong: the key, the nonce, the associated data or the sealed \
     input is not as it was sealed";
 
+/// Such versions coded an AD length of 128 to 255 in another way.
+const SEALED_BEFORE: &str =
+    "a version before 2.0.0 sealed it: what those sealed with associated data \
+    of 128 to 255 bytes no longer opens";
+
 /// What is wrong with the inputs, where the archive refused them with this number.
 pub fn sentence(call: Call, inputs: &Inputs, number: u8) -> String {
     let (data, limit) = match call {
@@ -26,6 +31,7 @@ pub fn sentence(call: Call, inputs: &Inputs, number: u8) -> String {
             is(data, &inputs.data)
         ),
         6 => "the output is too short".to_string(),
+        7 if (128..=255).contains(&inputs.ad.len()) => format!("{WRONG_TAG}, or {SEALED_BEFORE}"),
         7 => WRONG_TAG.to_string(),
         _ => unreachable!("the header names no refusal {number}"),
     }

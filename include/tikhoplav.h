@@ -32,6 +32,16 @@
  *
  *   tikhoplav_ciphertext_size: a length, 0 or more. It refuses nothing and writes nothing.
  *
+ * The length of the AD, and payloads of earlier versions
+ *
+ *   The tag is over the length of the AD too. It stands before the AD, coded in the shortest form that X.690 has for it
+ *   (DER): up to 127, one byte with that value; from 128 to 255, byte 0x81 and one byte; from 256 on, byte 0x82 and two
+ *   bytes, high byte first.
+ *
+ *   Versions before 2.0.0 coded 128 to 255 as byte 0x82 and two bytes. Payloads that they sealed with an AD of 128 to
+ *   255 bytes no longer open: the answer is TIKHOPLAV_REFUSED_TAG_DIFFERS. Nor do those versions open what this one
+ *   seals with such an AD. With an AD of any other length, each opens what the other seals.
+ *
  * What is not promised
  *
  *   How long a call takes. It grows with the lengths, and opening goes over the ciphertext twice. Nor does a call wipe
@@ -65,7 +75,7 @@
 extern "C" {
 #endif
 
-#define TIKHOPLAV_VERSION "1.1.0"
+#define TIKHOPLAV_VERSION "2.0.0"
 
 /* Sizes in bytes. A key and a nonce have exactly these; a sealed payload ends with exactly such a tag. */
 #define TIKHOPLAV_KEY_SIZE 16
@@ -103,7 +113,7 @@ extern "C" {
 #define TIKHOPLAV_REFUSED_OUTPUT_TOO_SHORT (-6)
 
 /* Opening only: the tag is not the one that key, nonce, AD and ciphertext give. Any of the four, or the tag, differs
-   from what was sealed; which one cannot be told. */
+   from what was sealed, or a version before 2.0.0 sealed it with an AD of 128 to 255 bytes; which cannot be told. */
 #define TIKHOPLAV_REFUSED_TAG_DIFFERS (-7)
 
 /*
