@@ -144,6 +144,58 @@ static void known_answer(void)
     release(&j);
 }
 
+/* The payload of counting bytes: an AD of so many, and a message of one. */
+typedef struct {
+    size_t ad_len;
+    uint8_t payload[1 + TIKHOPLAV_TAG_SIZE];
+} stored;
+
+/* Around the borders of the forms in which the length of the AD is coded, and at the limit. */
+static void coded_ad_lengths(void)
+{
+    static stored table[] = {
+        { 127, { 0xa2, 0x20, 0x7c, 0xc5, 0xf6, 0xba, 0x72, 0x6f, 0x2e } },
+        { 128, { 0x87, 0x4d, 0xa8, 0x61, 0xf8, 0xfc, 0x92, 0x3a, 0xc3 } },
+        { 255, { 0xbf, 0xd2, 0x5b, 0xb4, 0x4d, 0xde, 0xde, 0x22, 0x20 } },
+        { 256, { 0x53, 0x6e, 0x8b, 0x79, 0xa3, 0xc2, 0xe5, 0x8b, 0xc7 } },
+        { TIKHOPLAV_AD_MAX, { 0x1b, 0xdd, 0xe1, 0x31, 0x17, 0xd2, 0x1e, 0xd9, 0xad } },
+    };
+    slice expected;
+    size_t i;
+    job j;
+
+    expected.len = sizeof table->payload;
+    for (i = 0; i < sizeof table / sizeof *table; i++) {
+        expected.bytes = table[i].payload;
+        j = sealing(table[i].ad_len, 1);
+        CHECK(run(tikhoplav_seal, &j) == (int64_t)expected.len);
+        CHECK(same(j.out, expected));
+        turn(&j);
+        CHECK(run(tikhoplav_open, &j) == 1);
+        CHECK(j.out.bytes[0] == 0);
+        release(&j);
+    }
+}
+
+/* Versions before 2.0.0 coded lengths of 128 to 255 with 0x82 and two bytes. */
+static void payloads_of_earlier_versions(void)
+{
+    static const stored table[] = {
+        { 128, { 0x96, 0x35, 0xb9, 0x61, 0xe8, 0xb6, 0x8c, 0x51, 0x25 } },
+        { 255, { 0xd6, 0xc6, 0x6c, 0xd4, 0xca, 0xfa, 0x94, 0xb2, 0x2a } },
+    };
+    size_t i;
+    job j;
+
+    for (i = 0; i < sizeof table / sizeof *table; i++) {
+        j = sealing(table[i].ad_len, 1);
+        memcpy(j.out.bytes, table[i].payload, sizeof table[i].payload);
+        turn(&j);
+        refused(tikhoplav_open, &j, TIKHOPLAV_REFUSED_TAG_DIFFERS);
+        release(&j);
+    }
+}
+
 static void round_trip(size_t ad_len, size_t message_len)
 {
     job j = sealing(ad_len, message_len);
@@ -305,6 +357,8 @@ int main(void)
 
     constants();
     known_answer();
+    coded_ad_lengths();
+    payloads_of_earlier_versions();
     for (a = 0; a < sizeof ad_lens / sizeof *ad_lens; a++)
         for (m = 0; m < sizeof message_lens / sizeof *message_lens; m++)
             round_trip(ad_lens[a], message_lens[m]);

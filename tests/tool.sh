@@ -10,6 +10,8 @@ cd "$scratch" || exit 1
 key=000102030405060708090a0b0c0d0e0f
 nonce=000102030405060708090a0b
 secrets=(--key "$key" --nonce "$nonce")
+wrong_tag="the tag is wrong: the key, the nonce, the associated data or the sealed input is not as it was sealed"
+sealed_before="a version before 2.0.0 sealed it: what those sealed with associated data of 128 to 255 bytes no longer opens"
 checks=0
 
 check() { # WHAT COMMAND...: the command succeeds
@@ -83,6 +85,36 @@ hex() {
   check "nothing on standard output beside --out" [ ! -s output ]
 }
 
+ad_lengths() { # sealed and opened at the borders of the forms in which the length is coded, and at the limit
+  local counting size payload
+  counting=$(yes "$(printf '%02x' {0..255})" | head -n 16 | tr -d '\n')
+  while read -r size payload; do
+    echo 00 >input
+    run 0 seal "${secrets[@]}" --ad "${counting:0:2*size}" --hex-in --hex-out
+    check "sealed with an AD of $size bytes" [ "$(cat output)" = "$payload" ]
+    cp output input
+    run 0 open "${secrets[@]}" --ad "${counting:0:2*size}" --hex-in --hex-out
+    check "opened with an AD of $size bytes" [ "$(cat output)" = 00 ]
+  done <<'END'
+127 a2207cc5f6ba726f2e
+128 874da861f8fc923ac3
+255 bfd25bb44ddede2220
+256 536e8b79a3c2e58bc7
+4096 1bdde13117d21ed9ad
+END
+  # Sealed by a version before 2.0.0, which coded these lengths with 0x82 and two bytes.
+  while read -r size payload; do
+    echo "$payload" >input
+    refuses 7 "$wrong_tag, or $sealed_before" open "${secrets[@]}" --ad "${counting:0:2*size}" --hex-in
+  done <<'END'
+128 9635b961e8b68c5125
+255 d6c66cd4cafa94b22a
+END
+  for size in 127 256; do
+    refuses 7 "$wrong_tag" open "${secrets[@]}" --ad "${counting:0:2*size}" --hex-in
+  done
+}
+
 file_in_place() {
   echo "engine 2400 rpm" >log
   run 0 seal "${secrets[@]}" --in log --out log
@@ -130,8 +162,7 @@ refusals() {
   bytes 4097 >ad
   refuses 3 "the associated data is 4097 bytes, and may be at most 4096" seal "${secrets[@]}" --ad-file ad
   refuses 3 "the associated data is 4097 bytes, and may be at most 4096" open "${secrets[@]}" --ad-file ad
-  refuses 7 "the tag is wrong: the key, the nonce, the associated data or the sealed input is not as it was sealed" \
-    open "${secrets[@]}"
+  refuses 7 "$wrong_tag" open "${secrets[@]}"
   bytes 32769 >input
   refuses 4 "the message is 32769 bytes, and may be at most 32768" seal "${secrets[@]}"
   bytes 100000 >input
@@ -205,6 +236,7 @@ help_and_selftest() {
 
 round_trips
 hex
+ad_lengths
 file_in_place
 parts
 refusals

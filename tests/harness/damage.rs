@@ -47,7 +47,7 @@ pub fn random(judge: &mut Judge) -> Verdict {
 
 /// A byte more or less, at either end of the AD and of the sealed input.
 pub fn lengths(judge: &mut Judge) -> Verdict {
-    for ad_len in [1, 20, 127, 128, 129] {
+    for ad_len in [1, 20, 127, 128, 129, 255, 256, 257] {
         for message_len in 0..=20 {
             let sealing = judge.sealing(ad_len, message_len);
             let opening = judge.opening(&sealing);

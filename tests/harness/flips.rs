@@ -43,7 +43,7 @@ pub fn random(judge: &mut Judge) -> Verdict {
     for _ in 0..PAYLOADS {
         let any = judge.random.number() | 1;
         let changes: Vec<u64> = every_tag_bit.clone().chain([any, u64::MAX]).collect();
-        let ad_len = judge.random.pick(&[0, 1, 7, 30, 127, 128, 140]);
+        let ad_len = judge.random.pick(&[0, 1, 7, 30, 127, 128, 140, 255, 256]);
         let message_len = judge.random.below(60);
         let sealing = judge.sealing(ad_len, message_len);
         for flips in choices(judge, &sealing) {

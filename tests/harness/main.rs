@@ -1,5 +1,6 @@
 //! The archive beside the independent implementation, on seeded random inputs.
 
+mod ad_lengths;
 mod damage;
 mod flips;
 mod judge;
@@ -19,7 +20,7 @@ const SEED: u64 = 128;
 
 type Group = fn(&mut Judge) -> Verdict;
 
-const GROUPS: [(&str, Group); 16] = [
+const GROUPS: [(&str, Group); 18] = [
     ("published vectors, on the model", vectors::published),
     (
         "stored answers of the selftest, on the model",
@@ -27,6 +28,8 @@ const GROUPS: [(&str, Group); 16] = [
     ),
     ("small sizes", sizes::small),
     ("sizes at the limits", sizes::limits),
+    ("AD lengths to 300, and the limit", ad_lengths::shortest),
+    ("AD lengths coded in a longer form", ad_lengths::longer),
     ("sealed inputs short and long", sizes::sealed_inputs),
     ("parts of sealed inputs", parts::run),
     ("sizes of keys and nonces", sizes::keys_and_nonces),
