@@ -1,10 +1,12 @@
 -- Repeated application.
 -- Assumes nothing.
 use mathlib.Core.Path.{_≡_, refl, sym, ap, _∙_}
+use mathlib.Core.List.{List, [], _∷_, _++_}
 use Prim.Native.Nat.{ℕ, zero, suc, _+_, _-_, _<_, _≤_}
 use native.Mathlib.Nat.{zero-add, suc-add, not-suc-le-zero}
 use native.Mathlib.Numerals.{sub-one}
-use Rattle.bits.specs.Times.{times}
+use lib.ListN.{replicate}
+use Rattle.bits.specs.Times.{times, inTurn}
 
 module _ {A : Type 0} (f : A → A) where
   -- The last application is as good as the first.
@@ -29,3 +31,13 @@ module _ {A : Type 0} (f : A → A) where
   unfolding times
   times-none zero h whole = whole
   times-none (suc n) h whole = absurd (not-suc-le-zero h)
+
+pub inTurn-append : {A : Type 0} (fs gs : List (A → A)) (a : A) → inTurn (fs ++ gs) a ≡ inTurn gs (inTurn fs a)
+unfolding inTurn
+inTurn-append [] gs a = refl
+inTurn-append (f ∷ fs) gs a = inTurn-append fs gs (f a)
+
+pub inTurn-replicate : {A : Type 0} (n : ℕ) (f : A → A) (a : A) → inTurn (replicate n f) a ≡ times n f a
+unfolding inTurn times
+inTurn-replicate zero f a = refl
+inTurn-replicate (suc n) f a = inTurn-replicate n f (f a)

@@ -3,13 +3,14 @@
 use mathlib.Core.Path.{_≡_, refl, sym, ap, _∙_}
 use mathlib.Core.Bool.{true}
 use mathlib.Core.List.{List, [], _∷_, _++_, append-assoc, append-cancel-right}
-use Prim.Native.Nat.{ℕ, _+_, _*_, _<_}
+use Prim.Native.Nat.{ℕ, _<_}
 use native.Mathlib.Omega.{arith}
 use lib.ListN.{length, take, drop, length-append}
 use lib.Seq.{take-at, drop-at}
 use Rattle.bits.specs.Bytes.{Bytes, bits}
 use Rattle.bits.proofs.Packing.{bits-append, length-bits, bits-injective, Bytes-append}
 use Rattle.payload.specs.AuthenticatedString.{codedLength, header, authenticated}
+use Rattle.payload.specs.Job.{stringBits}
 use Rattle.payload.specs.Laws.{Unambiguous}
 use Rattle.payload.proofs.CodedLength.{distinguished, coded-prefix}
 
@@ -25,7 +26,8 @@ authenticated-bits : (ad message : List ℕ) → authenticated ad message ≡ bi
 unfolding authenticated header
 authenticated-bits ad message = simp (bits-append, append-assoc)
 
-pub length-authenticated : (ad message : List ℕ) → length (authenticated ad message) ≡ 8 * (length (codedLength (length ad)) + length ad + length message) + 1
+pub length-authenticated : (ad message : List ℕ) → length (authenticated ad message) ≡ stringBits (length ad) (length message)
+unfolding stringBits
 length-authenticated ad message =
     ap length (authenticated-bits ad message)
     ∙ omega (arith, length-append (bits all) (true ∷ []), length-bits all, length-append (codedLength (length ad)) (ad ++ message), length-append ad message)

@@ -1,5 +1,6 @@
 pub mod CodedLength
 pub mod AuthenticatedString
+pub mod Job
 pub mod Payload
 pub mod Machine
 pub mod Flips

@@ -1,28 +1,46 @@
--- Laws of payloads: the lengths of every piece, the two parts of a sealed input, what the authenticated string tells, the machine's laws
--- under a key and a nonce, and what flips do to the tag.
+-- Laws of payloads: the lengths of every piece, what a job takes, the two parts of a sealed input, what the authenticated string tells, the
+-- machine's laws under a key and a nonce, and what flips do to the tag.
 use mathlib.Core.Path.{_≡_}
 use mathlib.Core.Bool.{Bool, false}
 use mathlib.Core.List.{List, [], _∷_, _++_}
 use Prim.Native.Nat.{ℕ, _+_, _-_, _*_, _≤_, _<_}
-use lib.ListN.{length, take, drop, getD}
+use lib.ListN.{length, take, drop, getD, replicate}
 use Rattle.bits.specs.Bytes.{Bytes, bits, flip}
 use Rattle.bits.specs.Bit.{_⊻_}
 use Rattle.bits.specs.Strings.{_⊞_, shift}
+use Rattle.bits.specs.Times.{inTurn}
+use Rattle.preoutput.specs.Algebra.{single}
+use Rattle.preoutput.specs.Generator.{Generator, plain}
 use Rattle.authenticator.specs.ClosedForm.{registersAt}
 use Rattle.machine.specs.Machine.{keystreamBit, run}
 use Rattle.machine.specs.Laws.{Sized}
 use Rattle.machine.specs.Laws as machine
 use Rattle.startup.specs.Sizes.{keySize, nonceSize}
-use Rattle.startup.specs.StartUp.{initialised}
+use Rattle.startup.specs.StartUp.{loaded, initialised}
+use Rattle.startup.specs.Laws.{startUpClocks}
 use Rattle.payload.specs.Sizes.{tagSize}
 use Rattle.payload.specs.AuthenticatedString.{codedLength, header, authenticated}
+use Rattle.payload.specs.Job.{stringBits, jobClocks}
 use Rattle.payload.specs.Payload.{ciphertext, tag, payload, ciphertextPart, tagPart}
 
 pub record Lengths (key nonce ad message : List ℕ) : Type 0 where
-  pub string : length (authenticated ad message) ≡ 8 * (length (codedLength (length ad)) + length ad + length message) + 1
+  pub string : length (authenticated ad message) ≡ stringBits (length ad) (length message)
   pub ciphertext : length (ciphertext key nonce ad message) ≡ length message
   pub tag : length (tag key nonce ad message) ≡ tagSize
   pub payload : length (payload key nonce ad message) ≡ length message + tagSize
+
+-- The clocks of a job in their order: those of start-up, and two plain ones for each bit of the string.
+unfoldable pub clocksOf : (key ad message : List ℕ) → List (Generator Bool → Generator Bool)
+clocksOf key ad message = startUpClocks key ++ replicate (2 * length (authenticated ad message)) (plain single)
+
+-- There are as many as is said, and they lead from the loaded registers to those after the final 1.
+pub record Clocked (key nonce ad message : List ℕ) : Type 0 where
+  pub count : length key ≡ keySize → length (clocksOf key ad message) ≡ jobClocks (length ad) (length message)
+  pub lead : inTurn (clocksOf key ad message) (loaded key nonce) ≡ run (initialised key nonce) (authenticated ad message) .generator
+
+-- A longer AD or message takes no fewer bits and no fewer clocks.
+abbrev pub JobGrows : Type 0
+JobGrows = (a m a′ m′ : ℕ) → a ≤ a′ → m ≤ m′ → (stringBits a m ≤ stringBits a′ m′) × (jobClocks a m ≤ jobClocks a′ m′)
 
 -- The two parts of a sealed input of any length. Put together they are the input, so together they are as long as it; the tag part begins
 -- where the ciphertext part ends, and runs to the end. It is a whole tag, or empty where the input is too short to have one.

@@ -1,5 +1,6 @@
 pub mod Sizes
 pub mod AuthenticatedString
+pub mod Job
 pub mod Payload
 pub mod Laws
 pub mod Examples

@@ -1,4 +1,5 @@
 pub mod Loaded
 pub mod Sizes
+pub mod Clocks
 pub mod Filled
 pub mod Initialised

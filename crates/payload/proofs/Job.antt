@@ -1,0 +1,41 @@
+-- What a job takes.
+-- Assumes nothing.
+use mathlib.Core.Path.{sym, ap, _∙_}
+use mathlib.Core.List.{List}
+use Prim.Native.Nat.{ℕ, _*_}
+use native.Mathlib.Omega.{arith}
+use lib.ListN.{length, replicate, length-append, length-replicate}
+use Rattle.bits.specs.Times.{inTurn}
+use Rattle.bits.proofs.Times.{inTurn-append, inTurn-replicate}
+use Rattle.preoutput.specs.Algebra.{single}
+use Rattle.preoutput.specs.Generator.{plain}
+use Rattle.startup.specs.StartUp.{loaded, initialised}
+use Rattle.startup.specs.Laws.{startUpClocks}
+use Rattle.startup.proofs.Clocks as startUp
+use Rattle.machine.proofs.Clocks.{run-clocked}
+use Rattle.payload.specs.AuthenticatedString.{authenticated}
+use Rattle.payload.specs.Job.{stringBits, jobClocks}
+use Rattle.payload.specs.Laws.{clocksOf, Clocked, JobGrows}
+use Rattle.payload.proofs.CodedLength.{coded-grows}
+use Rattle.payload.proofs.AuthenticatedString.{length-authenticated}
+
+pub clocked : (key nonce ad message : List ℕ) → Clocked key nonce ad message
+unfolding clocksOf jobClocks
+clocked key nonce ad message =
+    let n = 2 * length (authenticated ad message) in
+    let running = replicate n (plain single) in
+    let begun = startUp.clocked key nonce in
+    record {
+      count = λ k. omega (arith, length-append (startUpClocks key) running, begun .count k, length-replicate n (plain single), length-authenticated ad message);
+      lead =
+          inTurn-append (startUpClocks key) running (loaded key nonce)
+          ∙ ap (inTurn running) (begun .lead)
+          ∙ inTurn-replicate n (plain single) (initialised key nonce .generator)
+          ∙ sym (run-clocked (initialised key nonce) (authenticated ad message));
+    }
+
+pub job-grows : JobGrows
+unfolding stringBits jobClocks
+job-grows a m a′ m′ h k =
+    let coded = coded-grows a a′ h in
+    (omega (arith, coded), omega (arith, coded))
