@@ -1,3 +1,4 @@
+pub mod LargestJob
 pub mod Demand1
 pub mod Settled
 pub mod Rows

@@ -3,4 +3,5 @@ pub mod Order
 pub mod Calls
 pub mod Demand1
 pub mod Demand2
+pub mod LargestJob
 pub mod Demand3

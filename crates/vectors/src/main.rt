@@ -1,6 +1,5 @@
 // Runs the published vectors on the machine below the entry points, and document 01's unstarred examples on the calls. Prints a line
 // for each, and the counts.
-mod counted;
 mod examples;
 mod published;
 mod tally;

@@ -1,0 +1,19 @@
+-- What the largest job takes.
+-- Assumes nothing.
+use mathlib.Core.Path.{refl}
+use lib.ListN.{length}
+use Rattle.payload.specs.AuthenticatedString.{codedLength}
+use Rattle.payload.specs.Job.{stringBits, jobClocks}
+use Rattle.payload.proofs.AuthenticatedString.{length-authenticated}
+use Rattle.payload.proofs.Job.{job-grows}
+use Rattle.grain128aead.specs.Sizes.{adLimit, messageLimit}
+use Rattle.grain128aead.specs.LargestJob.{LargestJob, Largest}
+
+pub largest-job : LargestJob
+unfolding adLimit messageLimit codedLength stringBits jobClocks
+largest-job = record { bits = refl; clocks = refl }
+
+pub largest : Largest
+largest key nonce ad message legal =
+    let grows = job-grows (length ad) (length message) adLimit messageLimit (legal .adFits) (legal .messageFits) in
+    (rw (length-authenticated ad message) (grows .0), grows .1)

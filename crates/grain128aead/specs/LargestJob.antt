@@ -1,0 +1,19 @@
+-- The largest job: an AD and a message at their limits.
+use mathlib.Core.Path.{_≡_}
+use mathlib.Core.List.{List}
+use Prim.Native.Nat.{ℕ, _≤_}
+use lib.ListN.{length}
+use Rattle.payload.specs.AuthenticatedString.{authenticated}
+use Rattle.payload.specs.Job.{stringBits, jobClocks}
+use Rattle.grain128aead.specs.Sizes.{adLimit, messageLimit}
+use Rattle.grain128aead.specs.Demand2.{Legal}
+
+pub record LargestJob : Type 0 where
+  pub bits : stringBits adLimit messageLimit ≡ 294937
+  pub clocks : jobClocks adLimit messageLimit ≡ 590258
+
+-- No legal AD and message take more.
+abbrev pub Largest : Type 0
+Largest =
+    (key nonce ad message : List ℕ) → Legal key nonce ad message
+    → (length (authenticated ad message) ≤ stringBits adLimit messageLimit) × (jobClocks (length ad) (length message) ≤ jobClocks adLimit messageLimit)
