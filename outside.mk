@@ -57,13 +57,13 @@ SHARED := $(OUT)/libtikhoplav.rlib
 MODEL := $(OUT)/libmodel.rlib
 EXTERNS := --extern tikhoplav=$(SHARED) --extern model=$(MODEL)
 
-$(SHARED): cli/lib.rs cli/archive.rs cli/hex.rs cli/vectors.rs build/libtikhoplav.a
+$(SHARED): cli/lib.rs cli/archive.rs cli/hex.rs cli/sizes.rs cli/vectors.rs build/libtikhoplav.a
 	$(RUST) --crate-type rlib --crate-name tikhoplav -L native=build -o $@ $<
 
 build/tikhoplav: cli/main.rs $(wildcard cli/*.rs) cli/help.txt include/tikhoplav.h $(SHARED)
 	TIKHOPLAV_VERSION=$(VERSION) $(RUST) -C strip=symbols --crate-name tool --extern tikhoplav=$(SHARED) -o $@ $<
 
-$(MODEL): tests/model.rs | $(OUT)
+$(MODEL): tests/model.rs cli/sizes.rs | $(OUT)
 	$(RUST) --crate-type rlib --crate-name model -o $@ $<
 
 $(OUT)/harness: tests/harness/main.rs $(wildcard tests/harness/*.rs) $(SHARED) $(MODEL)
@@ -103,7 +103,7 @@ outside-test: have-c++ outside-build $(CALLS) $(OUT)/harness
 	  valgrind --quiet --error-exitcode=1 --leak-check=full $(OUT)/calls-plain; \
 	else echo 'left out: valgrind is not on PATH'; fi
 	@echo '== the command-line tool'
-	@tests/tool.sh build/tikhoplav $(VERSION)
+	@tests/tool.sh build/tikhoplav include/tikhoplav.h
 	@echo '== the installation'
 	@$(MAKE) -s --no-print-directory -f $(firstword $(MAKEFILE_LIST)) install DESTDIR= PREFIX=$(CURDIR)/$(OUT)/installed
 	@tests/installed.sh $(CURDIR)/$(OUT)/installed $(VERSION) $(CC)

@@ -3,10 +3,12 @@
 
 use std::hint::black_box;
 use std::time::{Duration, Instant};
-use tikhoplav::archive::{Call, KEY_SIZE, NONCE_SIZE, TAG_SIZE};
+use tikhoplav::archive::Call;
+use tikhoplav::sizes::{KEY_SIZE, MESSAGE_MAX, NONCE_SIZE, TAG_SIZE};
 use tikhoplav::vectors::counting;
 
-const SIZES: [usize; 4] = [16, 64, 1024, 32768];
+const KIB: usize = 1024;
+const MESSAGE_LENS: [usize; 5] = [16, 64, KIB, 32 * KIB, MESSAGE_MAX];
 const AD_LEN: usize = 8;
 const RUNS: usize = 7;
 const RUN_TIME: Duration = Duration::from_millis(50);
@@ -129,10 +131,10 @@ fn main() {
         "{:<8} {:>7} {:>14} {:>14} {:>9}  (min .. max)",
         "call", "bytes", "archive B/s", "model B/s", "ratio"
     );
-    for size in SIZES {
+    for size in MESSAGE_LENS {
         println!("{}", row("sealing", size, &runs(&mut Job::sealing(size))));
     }
-    for size in SIZES {
+    for size in MESSAGE_LENS {
         println!("{}", row("opening", size, &runs(&mut Job::opening(size))));
     }
 }

@@ -1,12 +1,4 @@
-//! The calls of the archive, each as a safe function, and the sizes that
-//! `include/tikhoplav.h` names.
-
-pub const KEY_SIZE: usize = 16;
-pub const NONCE_SIZE: usize = 12;
-pub const TAG_SIZE: usize = 8;
-pub const AD_MAX: usize = 4096;
-pub const MESSAGE_MAX: usize = 32768;
-pub const SEALED_MAX: usize = MESSAGE_MAX + TAG_SIZE;
+//! The calls of the archive, each as a safe function.
 
 #[link(name = "tikhoplav", kind = "static")]
 extern "C" {

@@ -5,8 +5,9 @@ use crate::inputs::Inputs;
 use crate::options::Options;
 use crate::refusal;
 use crate::streams;
-use tikhoplav::archive::{Call, SEALED_MAX};
+use tikhoplav::archive::Call;
 use tikhoplav::hex;
+use tikhoplav::sizes::SEALED_MAX;
 
 /// Reads everything, makes the call, and only on its success writes anything.
 pub fn run(call: Call, options: &Options) -> Result<(), Failure> {

@@ -2,4 +2,5 @@
 
 pub mod archive;
 pub mod hex;
+pub mod sizes;
 pub mod vectors;

@@ -14,9 +14,19 @@ use options::{Known, Options};
 use std::ffi::OsString;
 use std::process::ExitCode;
 use tikhoplav::archive::Call;
+use tikhoplav::sizes::{AD_MAX, MESSAGE_MAX, SEALED_MAX};
 
-const HELP: &str = include_str!("help.txt");
 const VERSION: &str = concat!("tikhoplav ", env!("TIKHOPLAV_VERSION"), "\n");
+
+/// The text of `--help`, with the limits that it names.
+fn help() -> String {
+    format!(
+        include_str!("help.txt"),
+        AD_MAX = AD_MAX,
+        MESSAGE_MAX = MESSAGE_MAX,
+        SEALED_MAX = SEALED_MAX
+    )
+}
 
 fn main() -> ExitCode {
     let arguments: Vec<OsString> = std::env::args_os().skip(1).collect();
@@ -38,7 +48,7 @@ fn run(arguments: &[OsString]) -> Result<(), Failure> {
         Some("open") => with_options(&options::SEAL_AND_OPEN, rest, |o| crypt::run(Call::Open, o)),
         Some("parts") => with_options(&options::PARTS, rest, parts::run),
         Some("selftest") => alone(rest).and_then(|()| selftest::run()),
-        Some("--help" | "-h" | "help") => streams::write_stdout(HELP.as_bytes()),
+        Some("--help" | "-h" | "help") => streams::write_stdout(help().as_bytes()),
         Some("--version" | "-V") => streams::write_stdout(VERSION.as_bytes()),
         _ => Err(Failure::Usage(format!(
             "unknown command '{}'",
@@ -55,7 +65,7 @@ fn with_options(
 ) -> Result<(), Failure> {
     let options = Options::parse(known, arguments)?;
     if options.has("--help") {
-        return streams::write_stdout(HELP.as_bytes());
+        return streams::write_stdout(help().as_bytes());
     }
     command(&options)
 }

@@ -5,8 +5,9 @@ use crate::inputs;
 use crate::options::Options;
 use crate::refusal;
 use crate::streams;
-use tikhoplav::archive::{self, TAG_SIZE};
+use tikhoplav::archive;
 use tikhoplav::hex;
+use tikhoplav::sizes::TAG_SIZE;
 
 /// Prints the ciphertext part and the tag part, a line each. Two lines are printed in any case;
 /// that there is no tag is said on standard error.

@@ -1,7 +1,8 @@
 //! A refusal in words.
 
 use crate::inputs::Inputs;
-use tikhoplav::archive::{Call, AD_MAX, KEY_SIZE, MESSAGE_MAX, NONCE_SIZE, SEALED_MAX, TAG_SIZE};
+use tikhoplav::archive::Call;
+use tikhoplav::sizes::{AD_MAX, KEY_SIZE, MESSAGE_MAX, NONCE_SIZE, SEALED_MAX, TAG_SIZE};
 
 const WRONG_TAG: &str = "the tag is wrong: the key, the nonce, the associated data or the sealed \
     input is not as it was sealed";

@@ -2,8 +2,9 @@
 
 use crate::failure::Failure;
 use crate::streams;
-use tikhoplav::archive::{self, KEY_SIZE, NONCE_SIZE, TAG_SIZE};
+use tikhoplav::archive;
 use tikhoplav::hex;
+use tikhoplav::sizes::{KEY_SIZE, NONCE_SIZE, TAG_SIZE};
 use tikhoplav::vectors::{counting, Published, Sealed, PUBLISHED, SEALED};
 
 struct Check {

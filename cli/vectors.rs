@@ -1,6 +1,6 @@
 //! Inputs with stored answers.
 
-use crate::archive::{KEY_SIZE, NONCE_SIZE};
+use crate::sizes::{AD_MAX, KEY_SIZE, MESSAGE_MAX, NONCE_SIZE};
 
 /// A vector of the designers' paper, appendix A. Its string is as printed: without a coded AD length,
 /// and with zeros after the final 1, which add nothing to the tag.
@@ -108,7 +108,7 @@ pub const SEALED: [Sealed; 9] = [
     sealed(128, 3, "879725b1c85dad6c351e4d"),
     sealed(255, 5, "bfd751df1134fb8775300b3be8"),
     sealed(256, 5, "53dd1742b35db39776db2d3b69"),
-    sealed(4096, 32768, "0b1f0abffc41bf1ddedab85dac5d3be1"),
+    sealed(AD_MAX, MESSAGE_MAX, "0b1f0abffc41bf1ddedab85dac5d3be1"),
 ];
 
 /// The bytes 00 01 02 .., beginning again after ff.

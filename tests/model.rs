@@ -1,5 +1,10 @@
-//! An independent implementation of document 01: a byte for each register bit, and every bit moved
-//! at every clock.
+//! An independent implementation of documents 01 and 02: a byte for each register bit, and every
+//! bit moved at every clock.
+
+#[path = "../cli/sizes.rs"]
+mod sizes;
+
+use sizes::{AD_MAX, KEY_SIZE, MESSAGE_MAX, NONCE_SIZE, SEALED_MAX, TAG_SIZE};
 
 type Places = [u8; 128];
 
@@ -172,11 +177,11 @@ pub fn seal(
     room: usize,
 ) -> Result<Vec<u8>, u8> {
     refuse(&[
-        (1, key.len() != 16),
-        (2, nonce.len() != 12),
-        (3, ad.len() > 4096),
-        (4, message.len() > 32768),
-        (6, room < message.len() + 8),
+        (1, key.len() != KEY_SIZE),
+        (2, nonce.len() != NONCE_SIZE),
+        (3, ad.len() > AD_MAX),
+        (4, message.len() > MESSAGE_MAX),
+        (6, room < message.len() + TAG_SIZE),
     ])?;
     Ok(payload(key, nonce, &coded_length(ad.len()), ad, message))
 }
@@ -202,8 +207,8 @@ pub fn payload(
 /// The ciphertext part and the tag part of a sealed input.
 pub fn parts(sealed: &[u8]) -> (&[u8], &[u8]) {
     match sealed.len() {
-        0..=7 => (sealed, &[]),
-        length => sealed.split_at(length - 8),
+        0..TAG_SIZE => (sealed, &[]),
+        length => sealed.split_at(length - TAG_SIZE),
     }
 }
 
@@ -216,12 +221,12 @@ pub fn open(
     room: usize,
 ) -> Result<Vec<u8>, u8> {
     refuse(&[
-        (1, key.len() != 16),
-        (2, nonce.len() != 12),
-        (3, ad.len() > 4096),
-        (4, sealed.len() > 32776),
-        (5, sealed.len() < 8),
-        (6, room + 8 < sealed.len()),
+        (1, key.len() != KEY_SIZE),
+        (2, nonce.len() != NONCE_SIZE),
+        (3, ad.len() > AD_MAX),
+        (4, sealed.len() > SEALED_MAX),
+        (5, sealed.len() < TAG_SIZE),
+        (6, room + TAG_SIZE < sealed.len()),
     ])?;
     let (ciphertext, tag) = parts(sealed);
     let mut machine = begin(key, nonce, &coded_length(ad.len()), ad);

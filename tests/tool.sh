@@ -1,11 +1,17 @@
 #!/usr/bin/env bash
-# Drives the command-line tool as a user would. Usage: tests/tool.sh TOOL VERSION
+# Drives the command-line tool as a user would. Usage: tests/tool.sh TOOL HEADER
 set -u
 tool=$(realpath "$1")
-version=$2
+header=$(realpath "$2")
 scratch=$(mktemp -d)
 trap 'rm -rf "$scratch"' EXIT
 cd "$scratch" || exit 1
+
+defined() { sed -n "s/^#define TIKHOPLAV_$1 //p" "$header" | tr -d '"'; } # NAME: what the header has for it
+version=$(defined VERSION)
+ad_max=$(defined AD_MAX)
+message_max=$(defined MESSAGE_MAX)
+sealed_max=$((message_max + $(defined TAG_SIZE)))
 
 key=000102030405060708090a0b0c0d0e0f
 nonce=000102030405060708090a0b
@@ -61,8 +67,8 @@ bytes() { head -c "$1" /dev/zero; }
 round_trips() {
   printf '\x00\x01\x02\x03\x04\x05\x06\x07\x08\x09\x0a\x0b\x0c\x0d\x0e\x0f' >key
   head -c 12 key >nonce
-  bytes 4096 | tr '\0' 'a' >ad
-  for size in 0 1 8 1000 32768; do
+  bytes "$ad_max" | tr '\0' 'a' >ad
+  for size in 0 1 8 1000 "$message_max"; do
     yes "engine 2400 rpm" | head -c "$size" >input
     run 0 seal --key-file key --nonce-file nonce --ad-file ad --in input --out sealed
     check "size of the payload" [ "$(wc -c <sealed)" = $((size + 8)) ]
@@ -87,7 +93,7 @@ hex() {
 
 ad_lengths() { # sealed and opened at the borders of the forms in which the length is coded, and at the limit
   local counting size payload
-  counting=$(yes "$(printf '%02x' {0..255})" | head -n 16 | tr -d '\n')
+  counting=$(yes "$(printf '%02x' {0..255})" | head -n $((ad_max / 256 + 1)) | tr -d '\n')
   while read -r size payload; do
     echo 00 >input
     run 0 seal "${secrets[@]}" --ad "${counting:0:2*size}" --hex-in --hex-out
@@ -95,12 +101,12 @@ ad_lengths() { # sealed and opened at the borders of the forms in which the leng
     cp output input
     run 0 open "${secrets[@]}" --ad "${counting:0:2*size}" --hex-in --hex-out
     check "opened with an AD of $size bytes" [ "$(cat output)" = 00 ]
-  done <<'END'
+  done <<END
 127 a2207cc5f6ba726f2e
 128 874da861f8fc923ac3
 255 bfd25bb44ddede2220
 256 536e8b79a3c2e58bc7
-4096 1bdde13117d21ed9ad
+$ad_max 1bdde13117d21ed9ad
 END
   # Sealed by a version before 2.0.0, which coded these lengths with 0x82 and two bytes.
   while read -r size payload; do
@@ -145,28 +151,33 @@ parts() {
       [ "$(cat errors)" = "tikhoplav: too short to have a tag: the sealed input is $said, and a tag alone is 8" ]
     refuses 5 "the sealed input is $said, and its tag alone is 8" open "${secrets[@]}" --hex-in
   done
-  bytes 40000 | tr '\0' 'a' >sealed
+  bytes $((sealed_max + 1)) | tr '\0' 'a' >sealed
   run 0 parts --in sealed
-  check "both parts of 40000 bytes" cmp output <(printf '%s\n' "$(yes 61 | head -n 39992 | tr -d '\n')" 6161616161616161)
+  check "both parts of an input over the limit" \
+    cmp output <(printf '%s\n' "$(yes 61 | head -n $((message_max + 1)) | tr -d '\n')" 6161616161616161)
   cp output input
   run 0 parts --hex-in --in -
   check "both lines together are the input" cmp output input
 }
 
 refusals() {
+  local said
   bytes 20 >input
   refuses 1 "the key is 15 bytes, and must be 16" seal --key "${key%??}" --nonce "$nonce"00
   refuses 1 "the key is 0 bytes, and must be 16" open --key "" --nonce "$nonce"
   refuses 1 "the key is 1 byte, and must be 16" open --key 00 --nonce "$nonce"
   refuses 2 "the nonce is 13 bytes, and must be 12" seal --key "$key" --nonce "$nonce"00
-  bytes 4097 >ad
-  refuses 3 "the associated data is 4097 bytes, and may be at most 4096" seal "${secrets[@]}" --ad-file ad
-  refuses 3 "the associated data is 4097 bytes, and may be at most 4096" open "${secrets[@]}" --ad-file ad
+  bytes $((ad_max + 1)) >ad
+  said="the associated data is $((ad_max + 1)) bytes, and may be at most $ad_max"
+  refuses 3 "$said" seal "${secrets[@]}" --ad-file ad
+  refuses 3 "$said" open "${secrets[@]}" --ad-file ad
   refuses 7 "$wrong_tag" open "${secrets[@]}"
-  bytes 32769 >input
-  refuses 4 "the message is 32769 bytes, and may be at most 32768" seal "${secrets[@]}"
-  bytes 100000 >input
-  refuses 4 "the sealed input is 100000 bytes, and may be at most 32776" open "${secrets[@]}"
+  bytes $((message_max + 1)) >input
+  refuses 4 "the message is $((message_max + 1)) bytes, and may be at most $message_max" seal "${secrets[@]}"
+  for size in $((sealed_max + 1)) $((2 * sealed_max)); do
+    bytes "$size" >input
+    refuses 4 "the sealed input is $size bytes, and may be at most $sealed_max" open "${secrets[@]}"
+  done
   bytes 7 >input
   refuses 5 "the sealed input is 7 bytes, and its tag alone is 8" open "${secrets[@]}"
 }
@@ -214,6 +225,9 @@ help_and_selftest() {
   : >input
   run 0 --help
   check "--help shows the usage" grep -q "^usage: tikhoplav seal" output
+  check "--help has the limit of the AD" grep -q "3 the AD is over $ad_max bytes" output
+  check "--help has the limits of the data" \
+    grep -q "4 the message is over $message_max bytes, or the sealed input over $sealed_max" output
   cp output help
   for command in seal open parts; do
     run 0 "$command" --help

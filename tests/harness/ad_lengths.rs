@@ -2,7 +2,7 @@
 
 use crate::judge::{Judge, Verdict};
 use crate::trial::Trial;
-use tikhoplav::archive::AD_MAX;
+use tikhoplav::sizes::AD_MAX;
 
 const MESSAGE_LENS: [usize; 3] = [0, 1, 20];
 

@@ -2,7 +2,7 @@
 
 use crate::judge::{Judge, Verdict};
 use crate::trial::Trial;
-use tikhoplav::archive::TAG_SIZE;
+use tikhoplav::sizes::TAG_SIZE;
 
 const RANDOM_TRIALS: usize = 2_000;
 

@@ -6,7 +6,7 @@ use crate::judge::{Judge, Verdict};
 use crate::random::Random;
 use crate::trial::Trial;
 use model::Machine;
-use tikhoplav::archive::{AD_MAX, MESSAGE_MAX};
+use tikhoplav::sizes::{AD_MAX, MESSAGE_MAX};
 
 const PAYLOADS: usize = 60;
 

@@ -2,7 +2,8 @@
 
 use crate::random::Random;
 use crate::trial::{Outcome, Trial};
-use tikhoplav::archive::{Call, KEY_SIZE, NONCE_SIZE, TAG_SIZE};
+use tikhoplav::archive::Call;
+use tikhoplav::sizes::{KEY_SIZE, NONCE_SIZE, TAG_SIZE};
 
 pub type Verdict = Result<(), String>;
 

@@ -2,7 +2,8 @@
 
 use crate::judge::{Judge, Verdict};
 use crate::trial::Trial;
-use tikhoplav::archive::{Call, AD_MAX, MESSAGE_MAX, SEALED_MAX, TAG_SIZE};
+use tikhoplav::archive::Call;
+use tikhoplav::sizes::{AD_MAX, MESSAGE_MAX, SEALED_MAX, TAG_SIZE};
 
 pub fn run(judge: &mut Judge) -> Verdict {
     let sealing = judge.sealing(10, 20);

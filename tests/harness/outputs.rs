@@ -1,7 +1,7 @@
 //! Outputs that are too short, just long enough, and longer.
 
 use crate::judge::{Judge, Verdict};
-use tikhoplav::archive::MESSAGE_MAX;
+use tikhoplav::sizes::MESSAGE_MAX;
 
 pub fn run(judge: &mut Judge) -> Verdict {
     for message_len in (0..=32).chain([255, 256, 1000, MESSAGE_MAX]) {

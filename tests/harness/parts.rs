@@ -1,7 +1,8 @@
 //! The two parts of sealed inputs.
 
 use crate::judge::{Judge, Verdict};
-use tikhoplav::archive::{self, SEALED_MAX};
+use tikhoplav::archive;
+use tikhoplav::sizes::SEALED_MAX;
 
 pub fn run(judge: &mut Judge) -> Verdict {
     for length in (0..=300).chain(SEALED_MAX - 1..=SEALED_MAX + 1) {

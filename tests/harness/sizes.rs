@@ -2,7 +2,8 @@
 
 use crate::judge::{Judge, Verdict};
 use crate::trial::Trial;
-use tikhoplav::archive::{Call, AD_MAX, KEY_SIZE, MESSAGE_MAX, NONCE_SIZE, SEALED_MAX, TAG_SIZE};
+use tikhoplav::archive::Call;
+use tikhoplav::sizes::{AD_MAX, KEY_SIZE, MESSAGE_MAX, NONCE_SIZE, SEALED_MAX, TAG_SIZE};
 
 const SMALL: usize = 40;
 const RANDOM_TRIALS: usize = 10_000;

@@ -2,8 +2,8 @@
 
 use crate::judge::{Judge, Verdict};
 use model::Machine;
-use tikhoplav::archive::{KEY_SIZE, NONCE_SIZE, TAG_SIZE};
 use tikhoplav::hex;
+use tikhoplav::sizes::{KEY_SIZE, NONCE_SIZE, TAG_SIZE};
 use tikhoplav::vectors::{counting, Published, PUBLISHED, SEALED};
 
 pub fn published(judge: &mut Judge) -> Verdict {

@@ -3,9 +3,8 @@
 use mathlib.Core.Path.{_≡_, refl, sym, ap, ap₂, _∙_, subst}
 use mathlib.Core.Bool.{Bool, true, false, cond}
 use mathlib.Core.List.{List, _++_}
-use Prim.Native.Nat.{ℕ, _+_, _*_, _≤_, _<_}
+use Prim.Native.Nat.{ℕ, _+_, _*_, _≤_}
 use native.Mathlib.Nat.{le-of-eq, lt-of-le-of-lt}
-use lib.Dec.{lit<}
 use lib.ListN.{length, length-append}
 use Rattle.bits.specs.Bytes.{flip}
 use Rattle.bits.specs.Strings.{_⊞_}
@@ -23,16 +22,12 @@ use Rattle.grain128aead.specs.Sizes.{adLimit}
 use Rattle.grain128aead.specs.Calls.{recovered, tagDiffers, opened}
 use Rattle.grain128aead.specs.Demand2.{Legal}
 use Rattle.grain128aead.specs.Demand3.{Distinct, Flipped, Agrees, Demand3}
+use Rattle.grain128aead.proofs.AdLengths.{two-bytes}
 use Rattle.grain128aead.proofs.Rows.{Authentic, tag-authentic, authentic-tag}
 use Rattle.grain128aead.proofs.Demand2.{InOrder, legal-in-order, opening-tag, opening-in-order}
 
--- A legal AD's length has two bytes at most.
-adLimit-coded : adLimit < 65536
-unfolding adLimit
-adLimit-coded = lit< tt
-
 pub distinct : Distinct
-distinct ad message ad′ message′ b c b′ c′ l l′ = unambiguous ad message ad′ message′ b c b′ c′ (lt-of-le-of-lt l adLimit-coded) (lt-of-le-of-lt l′ adLimit-coded)
+distinct ad message ad′ message′ b c b′ c′ l l′ = unambiguous ad message ad′ message′ b c b′ c′ (lt-of-le-of-lt l two-bytes) (lt-of-le-of-lt l′ two-bytes)
 
 -- Three flips of which the first and the last are the same are the one in the middle.
 flip-between : (s : List ℕ) (k d : List Bool) → Flips s k → Flips s d → flip (flip (flip s k) d) k ≡ flip s d

@@ -1,3 +1,4 @@
+pub mod AdLengths
 pub mod LargestJob
 pub mod Demand1
 pub mod Settled

@@ -1,8 +1,17 @@
 -- The limits in bytes (document 01, "Bits, bytes and sizes").
-use Prim.Native.Nat.{ℕ}
+use Prim.Native.Nat.{ℕ, _^_, _≤_, _<_}
+use Rattle.payload.specs.AuthenticatedString.{codedLength, Distinguished}
 
 unfoldable pub adLimit : ℕ
 adLimit = 4096
 
 unfoldable pub messageLimit : ℕ
 messageLimit = 32768
+
+-- Two bytes hold the length of every legal AD, so that 0x82 and two bytes is the longest form in which it is coded.
+abbrev pub TwoBytes : Type 0
+TwoBytes = adLimit < 2 ^ 16
+
+-- The coded length of every legal AD is its distinguished form.
+abbrev pub LegalLengths : Type 0
+LegalLengths = (n : ℕ) → n ≤ adLimit → Distinguished n (codedLength n)

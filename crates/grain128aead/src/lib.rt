@@ -1,4 +1,5 @@
 // Grain-128AEAD, first edition: sealing and opening of whole byte strings.
+pub mod limits;
 mod sizes;
 mod tag;
 
@@ -12,6 +13,7 @@ ghost use Rattle.grain128aead.specs.Calls as calls;
 ghost use Rattle.grain128aead.specs.Demand1.{Demand1};
 ghost use Rattle.grain128aead.specs.Demand2.{Sealing, Demand2};
 ghost use Rattle.grain128aead.specs.Demand3.{Demand3};
+use limits::MESSAGE_LIMIT;
 use machine::engine;
 use machine::engine::Engine;
 use machine::strings;
@@ -38,7 +40,7 @@ pub fn seal(key: &[u8], nonce: &[u8], ad: &[u8], message: &[u8], out: &mut [u8])
     ensures demand2 { λ r. ⌜ Sealing (now (key .entry)) (now (nonce .entry)) (now (ad .entry)) (now (message .entry)) (now (out .entry)) (outcome r (now (out .exit))) ⌝ }
 {
     let n = message.len();
-    let too_long = sizes::MESSAGE_LIMIT < n;
+    let too_long = MESSAGE_LIMIT < n;
     let no_room = out.len() < n + 8;
     match sizes::judge(key, nonce, ad, too_long, false, no_room) {
         Check::Failed(r) => Answer::Refused(r),
@@ -59,7 +61,7 @@ pub fn open(key: &[u8], nonce: &[u8], ad: &[u8], input: &[u8], out: &mut [u8]) -
     ensures demand3 { λ r. ⌜ Demand3 (now (key .entry)) (now (nonce .entry)) (now (ad .entry)) (now (input .entry)) (now (out .entry)) (outcome r (now (out .exit))) ⌝ }
 {
     let n = input.len();
-    let too_long = sizes::MESSAGE_LIMIT + 8 < n;
+    let too_long = MESSAGE_LIMIT + 8 < n;
     let too_short = n < 8;
     let no_room = out.len() + 8 < n;
     match sizes::judge(key, nonce, ad, too_long, too_short, no_room) {

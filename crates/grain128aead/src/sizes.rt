@@ -1,15 +1,12 @@
-// The limits, and the rows that sizes decide, in document 01's order.
+// The rows that sizes decide, in document 01's order.
 ghost use mathlib.Core.Path.{_≡_};
 ghost use mathlib.Core.Bool.{false};
 ghost use Rattle.refusals.specs.Refusals as refusals;
 ghost use Rattle.grain128aead.specs.Order.{sizeRefusals};
 ghost use Rattle.grain128aead.specs.Calls.{rows};
+use crate::limits::AD_LIMIT;
 use refusals::Check;
 use refusals::Refusal;
-
-pub const AD_LIMIT: usize = 4096;
-
-pub const MESSAGE_LIMIT: usize = 32768;
 
 // The first of these rows that applies. Whether rows 4 to 6 apply is the caller's to say.
 pub fn judge(

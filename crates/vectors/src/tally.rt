@@ -6,14 +6,15 @@ pub struct Tally {
     pub bad: u32,
 }
 
-pub fn line(t: Tally, name: &[u8], ok: bool) -> Tally {
+fn verdict(ok: bool) {
     if ok {
         io::write_all(STDOUT_FILENO, b"as expected  ");
     } else {
         io::write_all(STDOUT_FILENO, b"NOT          ");
     }
-    io::write_all(STDOUT_FILENO, name);
-    io::write_all(STDOUT_FILENO, b"\n");
+}
+
+fn counted(t: Tally, ok: bool) -> Tally {
     if ok {
         Tally {
             good: std::num::wrapping_add_u32(t.good, 1),
@@ -25,6 +26,23 @@ pub fn line(t: Tally, name: &[u8], ok: bool) -> Tally {
             bad: std::num::wrapping_add_u32(t.bad, 1),
         }
     }
+}
+
+pub fn line(t: Tally, name: &[u8], ok: bool) -> Tally {
+    verdict(ok);
+    io::write_all(STDOUT_FILENO, name);
+    io::write_all(STDOUT_FILENO, b"\n");
+    counted(t, ok)
+}
+
+// A line whose name has a size in it.
+pub fn sized(t: Tally, name: &[u8], size: usize, rest: &[u8], ok: bool) -> Tally {
+    verdict(ok);
+    io::write_all(STDOUT_FILENO, name);
+    io::print_decimal(STDOUT_FILENO, size as u64);
+    io::write_all(STDOUT_FILENO, rest);
+    io::write_all(STDOUT_FILENO, b"\n");
+    counted(t, ok)
 }
 
 pub fn close(t: Tally) {
