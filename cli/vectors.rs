@@ -108,7 +108,7 @@ pub const SEALED: [Sealed; 9] = [
     sealed(128, 3, "879725b1c85dad6c351e4d"),
     sealed(255, 5, "bfd751df1134fb8775300b3be8"),
     sealed(256, 5, "53dd1742b35db39776db2d3b69"),
-    sealed(AD_MAX, MESSAGE_MAX, "0b1f0abffc41bf1ddedab85dac5d3be1"),
+    sealed(AD_MAX, MESSAGE_MAX, "66457539f7c2bb922e7e7a4f76b33c0a"),
 ];
 
 /// The bytes 00 01 02 .., beginning again after ff.

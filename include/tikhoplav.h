@@ -40,7 +40,12 @@
  *
  *   Versions before 2.0.0 coded 128 to 255 as byte 0x82 and two bytes. Payloads that they sealed with an AD of 128 to
  *   255 bytes no longer open: the answer is TIKHOPLAV_REFUSED_TAG_DIFFERS. Nor do those versions open what this one
- *   seals with such an AD. With an AD of any other length, each opens what the other seals.
+ *   seals with such an AD.
+ *
+ *   Versions before 2.1.0 have lower limits. What this one seals above them they refuse, with
+ *   TIKHOPLAV_REFUSED_AD_TOO_LONG or TIKHOPLAV_REFUSED_MESSAGE_TOO_LONG.
+ *
+ *   Apart from these two, each version opens what another seals.
  *
  * What is not promised
  *
@@ -75,7 +80,7 @@
 extern "C" {
 #endif
 
-#define TIKHOPLAV_VERSION "2.0.0"
+#define TIKHOPLAV_VERSION "2.1.0"
 
 /* Sizes in bytes. A key and a nonce have exactly these; a sealed payload ends with exactly such a tag. */
 #define TIKHOPLAV_KEY_SIZE 16
@@ -84,8 +89,8 @@ extern "C" {
 
 /* The longest associated data, message and sealed payload, in bytes. Each may also be shorter: AD and message down to
    0 bytes, a sealed payload down to its tag. */
-#define TIKHOPLAV_AD_MAX 4096
-#define TIKHOPLAV_MESSAGE_MAX 32768
+#define TIKHOPLAV_AD_MAX 65535
+#define TIKHOPLAV_MESSAGE_MAX 61440
 #define TIKHOPLAV_SEALED_MAX (TIKHOPLAV_MESSAGE_MAX + TIKHOPLAV_TAG_SIZE)
 
 /*

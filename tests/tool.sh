@@ -106,7 +106,7 @@ ad_lengths() { # sealed and opened at the borders of the forms in which the leng
 128 874da861f8fc923ac3
 255 bfd25bb44ddede2220
 256 536e8b79a3c2e58bc7
-$ad_max 1bdde13117d21ed9ad
+$ad_max 8560c8a34f0fd0d1fe
 END
   # Sealed by a version before 2.0.0, which coded these lengths with 0x82 and two bytes.
   while read -r size payload; do

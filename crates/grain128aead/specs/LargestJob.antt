@@ -1,4 +1,4 @@
--- The largest job: an AD and a message at their limits.
+-- The largest job: an AD and a message at their limits (document 02, C-14).
 use mathlib.Core.Path.{_≡_}
 use mathlib.Core.List.{List}
 use Prim.Native.Nat.{ℕ, _≤_}
@@ -9,8 +9,8 @@ use Rattle.grain128aead.specs.Sizes.{adLimit, messageLimit}
 use Rattle.grain128aead.specs.Demand2.{Legal}
 
 pub record LargestJob : Type 0 where
-  pub bits : stringBits adLimit messageLimit ≡ 294937
-  pub clocks : jobClocks adLimit messageLimit ≡ 590258
+  pub bits : stringBits adLimit messageLimit ≡ 1015825
+  pub clocks : jobClocks adLimit messageLimit ≡ 2032034
 
 -- No legal AD and message take more.
 abbrev pub Largest : Type 0

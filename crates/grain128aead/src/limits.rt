@@ -1,4 +1,4 @@
 // The limits in bytes.
-pub const AD_LIMIT: usize = 4096;
+pub const AD_LIMIT: usize = 65535;
 
-pub const MESSAGE_LIMIT: usize = 32768;
+pub const MESSAGE_LIMIT: usize = 61440;

@@ -1,4 +1,4 @@
-// Document 01's examples that are not starred.
+// Document 01's examples that are not starred, at the limits of document 02 (C-14).
 use crate::tally;
 use crate::tally::Tally;
 use grain128aead::limits::AD_LIMIT;
