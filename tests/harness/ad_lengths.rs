@@ -1,4 +1,5 @@
-//! AD of every length around the borders of the coded length's forms, and of the greatest.
+//! AD of every length around the borders of the coded length's forms, around the powers of two
+//! above them, and of the greatest length.
 
 use crate::judge::{Judge, Verdict};
 use crate::trial::Trial;
@@ -10,7 +11,9 @@ const MESSAGE_LENS: [usize; 3] = [0, 1, 20];
 const LONGEST: usize = 3;
 
 fn ad_lens() -> impl Iterator<Item = usize> {
-    (0..=300).chain([AD_MAX])
+    let powers = (9..).map(|k| 1 << k).take_while(|&power| power < AD_MAX);
+    let around_powers = powers.flat_map(|power| power - 1..=power + 1);
+    (0..=300).chain(around_powers).chain([AD_MAX])
 }
 
 pub fn shortest(judge: &mut Judge) -> Verdict {

@@ -20,7 +20,7 @@ const SEED: u64 = 128;
 
 type Group = fn(&mut Judge) -> Verdict;
 
-const GROUPS: [(&str, Group); 18] = [
+const GROUPS: [(&str, Group); 19] = [
     ("published vectors, on the model", vectors::published),
     (
         "stored answers of the selftest, on the model",
@@ -28,12 +28,13 @@ const GROUPS: [(&str, Group); 18] = [
     ),
     ("small sizes", sizes::small),
     ("sizes at the limits", sizes::limits),
-    ("AD lengths to 300, and the limit", ad_lengths::shortest),
+    ("AD lengths, around every border", ad_lengths::shortest),
     ("AD lengths coded in a longer form", ad_lengths::longer),
     ("sealed inputs short and long", sizes::sealed_inputs),
     ("parts of sealed inputs", parts::run),
     ("sizes of keys and nonces", sizes::keys_and_nonces),
     ("random sizes", sizes::random),
+    ("random sizes up to the limits", sizes::random_long),
     ("outputs short, exact and longer", outputs::run),
     ("damage to every bit", damage::every_bit),
     ("damage at random", damage::random),

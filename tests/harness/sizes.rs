@@ -7,6 +7,7 @@ use tikhoplav::sizes::{AD_MAX, KEY_SIZE, MESSAGE_MAX, NONCE_SIZE, SEALED_MAX, TA
 
 const SMALL: usize = 40;
 const RANDOM_TRIALS: usize = 10_000;
+const LONG_TRIALS: usize = 25;
 
 pub fn small(judge: &mut Judge) -> Verdict {
     for ad_len in 0..=SMALL {
@@ -82,6 +83,18 @@ pub fn random(judge: &mut Judge) -> Verdict {
                 false => trial.success(&result),
             };
             judge.expect(&trial, &expected)?;
+        }
+    }
+    Ok(())
+}
+
+/// Random sizes up to both limits.
+pub fn random_long(judge: &mut Judge) -> Verdict {
+    for _ in 0..LONG_TRIALS {
+        let ad_len = judge.random.below(AD_MAX + 1);
+        let message_len = judge.random.below(MESSAGE_MAX + 1);
+        for (trial, result) in judge.both_calls(ad_len, message_len) {
+            judge.expect(&trial, &trial.success(&result))?;
         }
     }
     Ok(())
