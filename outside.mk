@@ -81,6 +81,10 @@ CALLS := $(addprefix $(OUT)/calls-,c c++ plain)
 
 $(CALLS): tests/calls.c include/tikhoplav.h build/libtikhoplav.a
 
+# memcpy is bound before the first call, so that the dynamic linker takes no stack in it.
+$(OUT)/stack: tests/stack.c include/tikhoplav.h build/libtikhoplav.a
+	$(C99) -Wl,-z,now $< build/libtikhoplav.a -o $@
+
 $(OUT)/calls-c:
 	$(C99) $(SANITIZE) $< build/libtikhoplav.a -o $@
 
@@ -90,10 +94,15 @@ $(OUT)/calls-c++:
 $(OUT)/calls-plain:
 	$(C99) -g $< build/libtikhoplav.a -o $@
 
-outside-test: have-c++ outside-build $(CALLS) $(OUT)/harness
+outside-test: have-c++ outside-build $(CALLS) $(OUT)/stack $(OUT)/harness
 	@echo '== the header alone, as C and as C++'
 	@$(C99) -fsyntax-only -x c include/tikhoplav.h
 	@$(CXX11) -fsyntax-only include/tikhoplav.h
+	@echo '== what the archive needs from elsewhere'
+	@needed=$$(nm --undefined-only --format=posix build/libtikhoplav.a | sed -n 's/ U.*//p') && echo $$needed && \
+	  [ "$$needed" = memcpy ] || { echo 'the header says memcpy' >&2; exit 1; }
+	@echo '== the stack that the calls take'
+	@$(OUT)/stack
 	@echo '== the calls from C, with sanitizers'
 	@$(OUT)/calls-c
 	@echo '== the calls from C++, with sanitizers'

@@ -10,9 +10,13 @@
  * What the archive needs
  *
  *   Link with -ltikhoplav. The code is for x86-64 and the System V calling convention (it uses the red zone and SSE2).
- *   It needs no C library, allocates nothing, and takes about 1 KiB of stack (measured, not proved). It has no global
- *   state, so calls may run at the same time in any number of threads, as long as nobody writes to a buffer that a
- *   running call reads, or touches one that it writes.
+ *   The one symbol that it needs from elsewhere is memcpy. It allocates nothing. It has no global state, so calls may
+ *   run at the same time in any number of threads, as long as nobody writes to a buffer that a running call reads, or
+ *   touches one that it writes.
+ *
+ *   A call takes at most 1 KiB of stack below its caller's frame. This is measured, up to the largest lengths, and not
+ *   proved: 976 bytes, with the memcpy of the GNU C library. Where memcpy stands in a shared library and is bound at
+ *   its first use, the dynamic linker takes stack of its own in that one call (about 3 KiB more on Linux).
  *
  * What the caller owes
  *

@@ -1,0 +1,109 @@
+/* How much stack the calls take. They run on a stack that is filled with a pattern, and what they leave of it is
+   counted. */
+#include <stdio.h>
+#include <string.h>
+#include <ucontext.h>
+
+#include <tikhoplav.h>
+
+/* What the header says. */
+enum { ENOUGH = 1024 };
+
+enum { STACK_SIZE = 1 << 16, PATTERN = 0xa5 };
+
+static uint8_t stack[STACK_SIZE];
+static uint8_t key[TIKHOPLAV_KEY_SIZE], nonce[TIKHOPLAV_NONCE_SIZE], ad[TIKHOPLAV_AD_MAX];
+static uint8_t message[TIKHOPLAV_MESSAGE_MAX], sealed[TIKHOPLAV_SEALED_MAX];
+static int64_t answer;
+
+static void no_call(void)
+{
+    answer = 0;
+}
+
+static void seal_nothing(void)
+{
+    answer = tikhoplav_seal(key, sizeof key, nonce, sizeof nonce, NULL, 0, NULL, 0, sealed, sizeof sealed);
+}
+
+static void seal_the_largest(void)
+{
+    answer = tikhoplav_seal(key, sizeof key, nonce, sizeof nonce, ad, sizeof ad, message, sizeof message, sealed,
+                            sizeof sealed);
+}
+
+static void seal_too_much(void)
+{
+    answer = tikhoplav_seal(key, sizeof key, nonce, sizeof nonce, ad, sizeof ad, sealed, sizeof sealed, message,
+                            sizeof message);
+}
+
+static void open_the_largest(void)
+{
+    answer = tikhoplav_open(key, sizeof key, nonce, sizeof nonce, ad, sizeof ad, sealed, sizeof sealed, message,
+                            sizeof message);
+}
+
+static void open_without_the_ad(void)
+{
+    answer = tikhoplav_open(key, sizeof key, nonce, sizeof nonce, NULL, 0, sealed, sizeof sealed, message,
+                            sizeof message);
+}
+
+static void size_of_the_largest(void)
+{
+    answer = tikhoplav_ciphertext_size(sealed, sizeof sealed);
+}
+
+typedef struct {
+    void (*run)(void);
+    int64_t expected;
+} trial;
+
+static const trial trials[] = {
+    { seal_nothing, TIKHOPLAV_TAG_SIZE },
+    { seal_the_largest, TIKHOPLAV_SEALED_MAX },
+    { seal_too_much, TIKHOPLAV_REFUSED_MESSAGE_TOO_LONG },
+    { open_the_largest, TIKHOPLAV_MESSAGE_MAX },
+    { open_without_the_ad, TIKHOPLAV_REFUSED_TAG_DIFFERS },
+    { size_of_the_largest, TIKHOPLAV_MESSAGE_MAX },
+};
+
+/* The bytes from the lowest one that is not as it was filled up to the top. */
+static size_t used(void (*run)(void))
+{
+    ucontext_t caller, callee;
+    size_t left = 0;
+
+    memset(stack, PATTERN, sizeof stack);
+    getcontext(&callee);
+    callee.uc_stack.ss_sp = stack;
+    callee.uc_stack.ss_size = sizeof stack;
+    callee.uc_link = &caller;
+    makecontext(&callee, run, 0);
+    swapcontext(&caller, &callee);
+    while (left < sizeof stack && stack[left] == PATTERN)
+        left++;
+    return sizeof stack - left;
+}
+
+int main(void)
+{
+    size_t i, taken, most = 0, without = used(no_call);
+
+    for (i = 0; i < sizeof trials / sizeof *trials; i++) {
+        taken = used(trials[i].run) - without;
+        if (answer != trials[i].expected) {
+            fprintf(stderr, "tests/stack.c: call %zu answers %lld\n", i, (long long)answer);
+            return 1;
+        }
+        if (taken > most)
+            most = taken;
+    }
+    printf("at most %zu bytes\n", most);
+    if (most > ENOUGH) {
+        fprintf(stderr, "tests/stack.c: the header says %d\n", ENOUGH);
+        return 1;
+    }
+    return 0;
+}
