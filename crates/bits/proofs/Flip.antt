@@ -3,13 +3,13 @@
 use mathlib.Core.Path.{_≡_, sym, ap, ap₂, _∙_}
 use mathlib.Core.Bool.{Bool}
 use mathlib.Core.List.{List, _++_}
-use Prim.Native.Nat.{ℕ, _+_, _*_}
+use Prim.Native.Nat.{ℕ, _*_}
 use native.Mathlib.Nat.{le-of-eq}
 use lib.ListN.{length, length-append}
 use Rattle.bits.specs.Bytes.{Bytes, bits, bytes, flip}
 use Rattle.bits.specs.Strings.{_⊞_, zeros}
-use Rattle.bits.proofs.Packing.{bits-append, length-bits, length-bytes, bytes-bits, bits-bytes, bytes-append}
-use Rattle.bits.proofs.Sum.{sum-assoc, sum-self, sum-zeros, sum-append, sum-cancel, length-sum}
+use Rattle.bits.proofs.Packing.{bits-append, length-bits, as-many-bits, length-bytes, bytes-bits, bits-bytes, bytes-append}
+use Rattle.bits.proofs.Sum.{sum-assoc, sum-self, sum-zeros, sum-append, sum-twice, length-sum}
 
 -- There is one flip for each bit of the string.
 abbrev pub Flips : List ℕ → List Bool → Type 0
@@ -42,8 +42,14 @@ flip-append s t d e h =
     ap₂ bytes (length-append s t) (ap (λ (b : List Bool). b ⊞ (d ++ e)) (bits-append s t) ∙ sum-append (bits s) d (bits t) e (length-bits s ∙ sym h))
     ∙ bytes-append (length s) (length t) (bits s ⊞ d) (bits t ⊞ e) (length-flipped s d h)
 
--- Flips that make the same of a string are the same.
-pub flip-injective : (s : List ℕ) (d e : List Bool) → Flips s d → Flips s e → flip s d ≡ flip s e → d ≡ e
-flip-injective s d e hd he same =
-    sum-cancel (bits s) d e (le-of-eq (length-bits s ∙ sym hd)) (le-of-eq (length-bits s ∙ sym he))
-    (sym (bits-flip s d hd) ∙ ap bits same ∙ bits-flip s e he)
+-- The sum of a string and what flips make of it is the flips.
+pub sum-flip : (s : List ℕ) (d : List Bool) → Flips s d → bits s ⊞ bits (flip s d) ≡ d
+sum-flip s d h = ap (λ (r : List Bool). bits s ⊞ r) (bits-flip s d h) ∙ sum-twice (bits s) d (le-of-eq (length-bits s ∙ sym h))
+
+-- The sum of two strings of one length has a flip for each bit, and with these flips the first is the second.
+pub sum-flips : (s t : List ℕ) → length s ≡ length t → Flips s (bits s ⊞ bits t)
+sum-flips s t e = length-sum (bits s) (bits t) (as-many-bits s t e) ∙ length-bits s
+
+pub flip-sum : (s t : List ℕ) → Bytes t → length s ≡ length t → flip s (bits s ⊞ bits t) ≡ t
+unfolding flip
+flip-sum s t h e = ap₂ bytes e (sum-twice (bits s) (bits t) (le-of-eq (as-many-bits s t e))) ∙ bytes-bits t h

@@ -24,6 +24,10 @@ unfolding bits
 length-bits [] = refl
 length-bits (b ∷ s) = omega (arith, length-append (word 8 b) (bits s), length-word 8 b, length-bits s)
 
+-- Byte strings of one length have as many bits.
+pub as-many-bits : (s t : List ℕ) → length s ≡ length t → length (bits s) ≡ length (bits t)
+as-many-bits s t e = length-bits s ∙ ap (λ (n : ℕ). 8 * n) e ∙ sym (length-bits t)
+
 pub length-bytes : (n : ℕ) (s : List Bool) → length (bytes n s) ≡ n
 unfolding bytes
 length-bytes zero s = refl

@@ -1,13 +1,14 @@
 -- The sum of bits, and the sum of strings of bits: a commutative sum in which everything is its own inverse.
 -- Assumes nothing.
 use mathlib.Core.Path.{_≡_, refl, sym, ap, ap₂, _∙_}
-use mathlib.Core.Bool.{Bool, true, false, not, Bool·not-not}
+use mathlib.Core.Logic.{_↔_, _≢_}
+use mathlib.Core.Bool.{Bool, true, false, not, Bool·not-not, false≢true}
 use mathlib.Core.List.{List, [], _∷_, _++_}
 use Prim.Native.Nat.{ℕ, zero, suc, _-_, _≤_}
 use native.Mathlib.Nat.{suc-inj, le-of-suc-le-suc, not-suc-le-zero, le-of-eq, suc-sub-suc, zero-sub, sub-zero}
 use lib.ListN.{length, getD, drop}
 use Rattle.bits.specs.Bit.{_⊻_}
-use Rattle.bits.specs.Strings.{_⊞_, zeros}
+use Rattle.bits.specs.Strings.{_⊞_, zeros, Differ}
 
 pub xor-false : (a : Bool) → a ⊻ false ≡ a
 xor-false true = refl
@@ -85,6 +86,15 @@ getD-sum (a ∷ s) [] i = sym (xor-false (getD (a ∷ s) i false))
 getD-sum (a ∷ s) (b ∷ t) zero = refl
 getD-sum (a ∷ s) (b ∷ t) (suc i) = getD-sum s t i
 
+xor-differs : (a b : Bool) → (a ⊻ b ≡ true) ↔ (a ≢ b)
+xor-differs true true = (λ e. absurd (false≢true e), λ d. absurd (d refl))
+xor-differs true false = (λ e h. false≢true (sym h), λ d. refl)
+xor-differs false true = (λ e h. false≢true h, λ d. refl)
+xor-differs false false = (λ e. absurd (false≢true e), λ d. absurd (d refl))
+
+pub differ : Differ
+differ s t i = rw (getD-sum s t i) (xor-differs (getD s i false) (getD t i false))
+
 -- The last places of a sum, and of zeros.
 pub drop-sum : (k : ℕ) (s t : List Bool) → drop k (s ⊞ t) ≡ drop k s ⊞ drop k t
 unfolding _⊞_
@@ -101,6 +111,10 @@ drop-zeros (suc k) (suc n) = drop-zeros k n ∙ ap zeros (sym (suc-sub-suc n k))
 -- A string added twice adds nothing.
 pub sum-twice : (s t : List Bool) → length s ≤ length t → s ⊞ (s ⊞ t) ≡ t
 sum-twice s t h = sym (sum-assoc s s t) ∙ ap (λ (r : List Bool). r ⊞ t) (sum-self s) ∙ sum-comm (zeros (length s)) t ∙ sum-zeros t (length s) h
+
+-- What is added to both strings of a sum adds nothing.
+pub sum-both : (s t u : List Bool) → length s ≤ length (t ⊞ u) → (s ⊞ t) ⊞ (s ⊞ u) ≡ t ⊞ u
+sum-both s t u h = sum-assoc s t (s ⊞ u) ∙ ap (λ (r : List Bool). s ⊞ r) (sum-left-comm t s u) ∙ sum-twice s (t ⊞ u) h
 
 -- What is added to one string on both sides of an equation may be left out.
 pub sum-cancel : (s t u : List Bool) → length s ≤ length t → length s ≤ length u → s ⊞ t ≡ s ⊞ u → t ≡ u

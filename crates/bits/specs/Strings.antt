@@ -1,5 +1,7 @@
 -- Strings of bits: the place-by-place sum, and a register that moves.
-use mathlib.Core.Bool.{Bool, false}
+use mathlib.Core.Path.{_≡_}
+use mathlib.Core.Logic.{_↔_, _≢_}
+use mathlib.Core.Bool.{Bool, true, false}
 use mathlib.Core.List.{List, [], _∷_, _++_}
 use Prim.Native.Nat.{ℕ}
 use lib.ListN.{getD, drop, replicate}
@@ -23,3 +25,7 @@ shift r new = drop 1 r ++ (new ∷ [])
 -- The bits of a string by their places; past its end, zeros.
 abbrev pub places : List Bool → ℕ → Bool
 places s i = getD s i false
+
+-- The positions where two strings differ, the shorter one continued with zeros, are those at which their sum has a 1.
+abbrev pub Differ : Type 0
+Differ = (s t : List Bool) (i : ℕ) → (places (s ⊞ t) i ≡ true) ↔ (places s i ≢ places t i)

@@ -1,30 +1,34 @@
 -- Demand 3: strings tell pairs apart, and which flips opening accepts.
 -- Assumes nothing.
 use mathlib.Core.Path.{_≡_, refl, sym, ap, ap₂, _∙_, subst}
-use mathlib.Core.Bool.{Bool, true, false, cond}
+use mathlib.Core.Logic.{_↔_}
+use mathlib.Core.Bool.{Bool}
 use mathlib.Core.List.{List, _++_}
 use Prim.Native.Nat.{ℕ, _+_, _*_, _≤_}
 use native.Mathlib.Nat.{le-of-eq, lt-of-le-of-lt}
-use lib.ListN.{length, length-append}
-use Rattle.bits.specs.Bytes.{flip}
+use native.Mathlib.Omega.{arith}
+use lib.ListN.{length, take, drop, length-append, length-drop, take-append-drop}
+use lib.Seq.{length-take-le}
+use Rattle.bits.specs.Bytes.{Bytes, bits, flip}
 use Rattle.bits.specs.Strings.{_⊞_}
-use Rattle.bits.proofs.Flip.{Flips, length-flip, flip-flip, flip-append, flip-injective}
+use Rattle.bits.proofs.Flip.{Flips, length-flip, flip-flip, flip-append, sum-flip, sum-flips, flip-sum}
+use Rattle.bits.proofs.Packing.{bytes-are-bytes}
 use Rattle.bits.proofs.Sum.{sum-comm, sum-twice}
-use Rattle.refusals.specs.declared.Refusal.the-variants.{TagDiffers}
-use Rattle.refusals.specs.Outcome.{Outcome, refused, success}
 use Rattle.payload.specs.Sizes.{tagSize}
 use Rattle.payload.specs.Payload.{ciphertext, deciphered, tag, payload, ciphertextPart, tagPart}
-use Rattle.payload.specs.Laws.{flippedRegisters}
+use Rattle.payload.specs.TwoTags.{differingRegisters}
 use Rattle.payload.proofs.AuthenticatedString.{unambiguous}
-use Rattle.payload.proofs.Payload.{ciphertextPart-joined, tagPart-joined, length-ciphertext, length-tag, under, length-under, ciphertext-flip, deciphered-flip, under-same}
-use Rattle.payload.proofs.Flips.{length-flippedRegisters, tag-flips}
+use Rattle.payload.proofs.Payload.{ciphertextPart-joined, tagPart-joined, length-ciphertext, length-tag, length-payload, under, length-under, ciphertext-flip, deciphered-flip, under-same}
+use Rattle.payload.proofs.Flips.{flipped-lengths}
 use Rattle.grain128aead.specs.Sizes.{adLimit}
-use Rattle.grain128aead.specs.Calls.{recovered, tagDiffers, opened}
+use Rattle.grain128aead.specs.Calls.{recovered, opened}
 use Rattle.grain128aead.specs.Demand2.{Legal}
 use Rattle.grain128aead.specs.Demand3.{Distinct, Flipped, Agrees, Demand3}
+use Rattle.grain128aead.specs.Substitution.{genuine, EqualLengths, EveryFlip}
 use Rattle.grain128aead.proofs.AdLengths.{two-bytes}
-use Rattle.grain128aead.proofs.Rows.{Authentic, tag-authentic, authentic-tag}
-use Rattle.grain128aead.proofs.Demand2.{InOrder, legal-in-order, opening-tag, opening-in-order}
+use Rattle.grain128aead.proofs.Rows.{Authentic}
+use Rattle.grain128aead.proofs.Demand2.{InOrder, legal-in-order}
+use Rattle.grain128aead.proofs.Substitution.{verdict, tag-part, authentic-sum}
 
 pub distinct : Distinct
 distinct ad message ad′ message′ b c b′ c′ l l′ = unambiguous ad message ad′ message′ b c b′ c′ (lt-of-le-of-lt l two-bytes) (lt-of-le-of-lt l′ two-bytes)
@@ -79,35 +83,32 @@ module _ {key nonce ad input : List ℕ} (f : Flipped key nonce ad input) where
       ∙ ap (λ (c : List ℕ). flip (flip c inCiphertext) (under key nonce oldAd (length oldMessage))) (ciphertext-flip key nonce oldAd oldMessage)
       ∙ flip-between oldMessage (under key nonce oldAd (length oldMessage)) inCiphertext (length-under key nonce oldAd (length oldMessage)) (f .ciphertextFlips)
 
-  -- The registers at the flipped data positions.
-  moved : List Bool
-  moved = flippedRegisters key nonce oldAd inAd inCiphertext
-
-  -- The received tag is the old one with its own flips, the recomputed one the old one with the registers at the flipped positions.
+  -- Its tag is the genuine one with the tag's flips.
   received-tag : tagPart input ≡ flip (tag key nonce oldAd oldMessage) inTag
   unfolding t′
   received-tag = ap tagPart input-parts ∙ tagPart-joined c′ t′ length-t′
 
-  recomputed-tag : tag key nonce ad (recovered key nonce ad input) ≡ flip (tag key nonce oldAd oldMessage) moved
-  unfolding moved
-  recomputed-tag =
-      ap₂ (tag key nonce) (f .flippedAd) recovers
-      ∙ tag-flips key nonce oldAd oldMessage inAd inCiphertext (legal .keySized) (legal .nonceSized) (f .adFlips) (f .ciphertextFlips)
+  flipped-bytes : Bytes (flip (tag key nonce oldAd oldMessage) inTag)
+  unfolding flip
+  flipped-bytes = bytes-are-bytes _ _
 
-  -- There are as many flips as the tag has bits.
-  tag-bits : (d : List Bool) → length d ≡ 64 → Flips (tag key nonce oldAd oldMessage) d
-  tag-bits d e = e ∙ ap (λ (n : ℕ). 8 * n) (sym (length-tag key nonce oldAd oldMessage))
+  pub equal-lengths : EqualLengths f
+  equal-lengths = record {
+    registers =
+        sym (flipped-lengths key nonce oldAd oldMessage inAd inCiphertext (legal .keySized) (legal .nonceSized) (f .adFlips) (f .ciphertextFlips))
+        ∙ ap₂ (differingRegisters key nonce oldAd oldMessage) (sym (f .flippedAd)) (sym recovers);
+    tags =
+        sym (sum-flip (tag key nonce oldAd oldMessage) inTag (f .tagFlips ∙ ap (λ (n : ℕ). 8 * n) (sym (length-tag key nonce oldAd oldMessage))))
+        ∙ ap₂ (λ (s t : List ℕ). bits s ⊞ bits t) (sym (tag-part (genuine f))) (sym received-tag);
+    message = sym recovers;
+  }
 
-  authentic-agrees : Authentic key nonce ad input → Agrees f
-  unfolding moved
-  authentic-agrees a =
-      flip-injective (tag key nonce oldAd oldMessage) moved inTag
-      (tag-bits moved (length-flippedRegisters key nonce (legal .keySized) (legal .nonceSized) oldAd inAd inCiphertext)) (tag-bits inTag (f .tagFlips))
-      (sym recomputed-tag ∙ sym a ∙ received-tag)
-
-  agrees-authentic : Agrees f → Authentic key nonce ad input
-  unfolding moved
-  agrees-authentic agrees = received-tag ∙ ap (flip (tag key nonce oldAd oldMessage)) (sym agrees) ∙ sym recomputed-tag
+  authentic-agrees : Authentic key nonce ad input ↔ Agrees f
+  unfolding t′
+  authentic-agrees =
+      let by-sum = authentic-sum (genuine f) ad input (subst Bytes (sym received-tag) flipped-bytes) (ap length received-tag ∙ length-t′) in
+      let e = equal-lengths in
+      (λ a. e .registers ∙ by-sum .0 a ∙ sym (e .tags), λ agrees. by-sum .1 (sym (e .registers) ∙ agrees ∙ e .tags))
 
   in-order : (out : List ℕ) → length oldMessage ≤ length out → InOrder key nonce ad input out
   in-order out room =
@@ -117,21 +118,35 @@ module _ {key nonce ad input : List ℕ} (f : Flipped key nonce ad input) where
       room
 
 pub demand3 : (key nonce ad input out : List ℕ) → Demand3 key nonce ad input out (opened key nonce ad input out)
-demand3 key nonce ad input out f room = record {
-  accepts = (λ a. authentic-agrees f (opening-in-order key nonce ad input out a .1), λ agrees. (_, ap (λ (o : Outcome). o .answer) (returns agrees)));
-  returns = returns;
-  refuses = λ differs. go differs (tagDiffers key nonce ad input) refl;
-}
+demand3 key nonce ad input out f room = verdict key nonce ad input out (in-order f out room) (authentic-agrees f) (recovers f)
+
+pub every-flip : EveryFlip
+every-flip key nonce ad input g b c la li = (
+  record {
+    oldAd = g .ad;
+    oldMessage = g .message;
+    oldPayload = g .payload;
+    genuine = g .makes;
+    inAd = bits (g .ad) ⊞ bits ad;
+    inCiphertext = take n flips;
+    inTag = drop n flips;
+    adFlips = sum-flips (g .ad) ad (sym la);
+    ciphertextFlips = length-take-le n flips (omega (arith, both, long));
+    tagFlips = omega (arith, length-drop n flips, both, long);
+    flippedAd = sym (flip-sum (g .ad) ad b (sym la));
+    flippedInput = sym (ap (flip (g .payload)) (take-append-drop n flips) ∙ flip-sum (g .payload) input c (sym li));
+  },
+  refl,
+)
   where
-    -- With the sizes in order the tag decides.
-    by-tag : (differs : Bool) → tagDiffers key nonce ad input ≡ differs → opened key nonce ad input out ≡ cond differs (refused TagDiffers out) (success (flip (f .oldMessage) (f .inCiphertext)) out)
-    by-tag differs h =
-        opening-tag key nonce ad input out (in-order f out room)
-        ∙ ap₂ (λ (b : Bool) (w : List ℕ). cond b (refused TagDiffers out) (success w out)) h (recovers f)
+    n : ℕ
+    n = 8 * length (g .message)
 
-    returns : Agrees f → opened key nonce ad input out ≡ success (flip (f .oldMessage) (f .inCiphertext)) out
-    returns agrees = by-tag false (authentic-tag key nonce ad input (agrees-authentic f agrees))
+    flips : List Bool
+    flips = bits (g .payload) ⊞ bits input
 
-    go : ¬ Agrees f → (b : Bool) → tagDiffers key nonce ad input ≡ b → opened key nonce ad input out ≡ refused TagDiffers out
-    go differs true h = by-tag true h
-    go differs false h = absurd (differs (authentic-agrees f (tag-authentic key nonce ad input h)))
+    both : Flips (g .payload) flips
+    both = sum-flips (g .payload) input (sym li)
+
+    long : length (g .payload) ≡ length (g .message) + tagSize
+    long = ap length (sym (g .makes .made)) ∙ length-payload key nonce (g .ad) (g .message)

@@ -4,6 +4,7 @@ pub mod Demand1
 pub mod Settled
 pub mod Rows
 pub mod Demand2
+pub mod Substitution
 pub mod Demand3
 pub mod Entry
 pub mod ShortInput

@@ -40,13 +40,16 @@ pub record Flipped (key nonce ad input : List ℕ) : Type 0 where
 abbrev pub Agrees : {key nonce ad input : List ℕ} → Flipped key nonce ad input → Type 0
 Agrees {key} {nonce} f = flippedRegisters key nonce (f .oldAd) (f .inAd) (f .inCiphertext) ≡ f .inTag
 
--- Opening accepts exactly when they do. It then returns the old message with the ciphertext's flips; otherwise it is refusal 7, and the
--- output is as lent.
-pub record Verdict {key nonce ad input : List ℕ} (f : Flipped key nonce ad input) (out : List ℕ) (o : Outcome) : Type 0 where
-  pub accepts : Accepts o ↔ Agrees f
-  pub returns : Agrees f → o ≡ success (flip (f .oldMessage) (f .inCiphertext)) out
-  pub refuses : ¬ Agrees f → o ≡ refused TagDiffers out
+-- What opening does by a condition: it accepts exactly when the condition holds, and then returns the message; otherwise it is refusal 7,
+-- and the output is as lent.
+pub record Verdict (condition : Type 0) (message out : List ℕ) (o : Outcome) : Type 0 where
+  pub accepts : Accepts o ↔ condition
+  pub returns : condition → o ≡ success message out
+  pub refuses : ¬ condition → o ≡ refused TagDiffers out
 
--- Whatever genuine payload and flips the AD and the input come from, and given room for the message.
+-- Whatever genuine payload and flips the AD and the input come from, and given room for the message: opening goes by whether the registers
+-- add up to the tag's flips, and returns the old message with the ciphertext's flips.
 abbrev pub Demand3 : (key nonce ad input out : List ℕ) → Outcome → Type 0
-Demand3 key nonce ad input out o = (f : Flipped key nonce ad input) → length (f .oldMessage) ≤ length out → Verdict f out o
+Demand3 key nonce ad input out o =
+    (f : Flipped key nonce ad input) → length (f .oldMessage) ≤ length out
+    → Verdict (Agrees f) (flip (f .oldMessage) (f .inCiphertext)) out o

@@ -5,3 +5,4 @@ pub mod Demand1
 pub mod Demand2
 pub mod LargestJob
 pub mod Demand3
+pub mod Substitution

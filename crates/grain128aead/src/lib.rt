@@ -13,6 +13,7 @@ ghost use Rattle.grain128aead.specs.Calls as calls;
 ghost use Rattle.grain128aead.specs.Demand1.{Demand1};
 ghost use Rattle.grain128aead.specs.Demand2.{Sealing, Demand2};
 ghost use Rattle.grain128aead.specs.Demand3.{Demand3};
+ghost use Rattle.grain128aead.specs.Substitution.{Substitution};
 use limits::MESSAGE_LIMIT;
 use machine::engine;
 use machine::engine::Engine;
@@ -59,6 +60,7 @@ pub fn open(key: &[u8], nonce: &[u8], ad: &[u8], input: &[u8], out: &mut [u8]) -
     ensures demand1 { λ r. ⌜ Demand1 (calls.openingRow (now (key .entry)) (now (nonce .entry)) (now (ad .entry)) (now (input .entry)) (now (out .entry))) (calls.recovered (now (key .entry)) (now (nonce .entry)) (now (ad .entry)) (now (input .entry))) (now (out .entry)) (outcome r (now (out .exit))) ⌝ }
     ensures demand2 { λ r. ⌜ Demand2 (now (key .entry)) (now (nonce .entry)) (now (ad .entry)) (now (input .entry)) (now (out .entry)) (outcome r (now (out .exit))) ⌝ }
     ensures demand3 { λ r. ⌜ Demand3 (now (key .entry)) (now (nonce .entry)) (now (ad .entry)) (now (input .entry)) (now (out .entry)) (outcome r (now (out .exit))) ⌝ }
+    ensures substitution { λ r. ⌜ Substitution (now (key .entry)) (now (nonce .entry)) (now (ad .entry)) (now (input .entry)) (now (out .entry)) (outcome r (now (out .exit))) ⌝ }
 {
     let n = input.len();
     let too_long = MESSAGE_LIMIT + 8 < n;

@@ -1,5 +1,5 @@
 -- Laws of the machine, over any starting state and any width w of the authenticator: lengths, what does not depend on the string, which
--- clock gives which bit, the accumulator in closed form, what flips in a string do to it, and cutting.
+-- clock gives which bit, the accumulator in closed form, the sum of two accumulators, and cutting.
 use mathlib.Core.Path.{_≡_}
 use mathlib.Core.Bool.{Bool, false}
 use mathlib.Core.List.{List, [], _∷_, _++_}
@@ -59,12 +59,15 @@ ClosedForm =
     (w : ℕ) (st : State) (s : List Bool) → 0 < w → Sized w st
     → run st s .authenticator .accumulator ≡ st .authenticator .accumulator ⊞ registersAt w (registerAt st) 0 s
 
--- Flips in a string alter the accumulator by the registers at the flipped positions. Where there are more flips than bits, the string
--- is continued with zeros.
-abbrev pub Flips : Type 0
-Flips =
-    (w : ℕ) (st : State) (s flips : List Bool) → 0 < w → Sized w st
-    → run st (s ⊞ flips) .authenticator .accumulator ≡ run st s .authenticator .accumulator ⊞ registersAt w (registerAt st) 0 flips
+-- The registers at all positions where two strings differ, the shorter one continued with zeros, added up: with none, w zeros.
+unfoldable pub differingRegisters : (w : ℕ) → State → (s t : List Bool) → List Bool
+differingRegisters w st s t = registersAt w (registerAt st) 0 (s ⊞ t)
+
+-- The accumulators after two strings of any lengths add up to these registers.
+abbrev pub AccumulatorSum : Type 0
+AccumulatorSum =
+    (w : ℕ) (st : State) (s t : List Bool) → 0 < w → Sized w st
+    → run st s .authenticator .accumulator ⊞ run st t .authenticator .accumulator ≡ differingRegisters w st s t
 
 -- The machine without the first k places of accumulator and register.
 unfoldable pub cut : ℕ → State → State

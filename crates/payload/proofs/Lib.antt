@@ -3,5 +3,6 @@ pub mod AuthenticatedString
 pub mod Job
 pub mod Payload
 pub mod Machine
+pub mod TwoTags
 pub mod Flips
 pub mod Examples

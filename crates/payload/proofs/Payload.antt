@@ -10,7 +10,7 @@ use lib.Dec.{ltb}
 use lib.ListN.{length, take, drop, length-append, take-append-drop, length-drop}
 use lib.Seq.{take-at, drop-at}
 use Rattle.bits.specs.Bytes.{Bytes, bits, flip}
-use Rattle.bits.proofs.Packing.{length-bits, length-bytes, bytes-are-bytes, Bytes-take}
+use Rattle.bits.proofs.Packing.{length-bits, length-bytes, bytes-are-bytes, Bytes-take, Bytes-drop}
 use Rattle.preoutput.specs.Algebra.{single}
 use Rattle.preoutput.specs.Generator.{Generator, everySecond}
 use Rattle.machine.specs.Machine.{encipher, decipher}
@@ -77,6 +77,9 @@ module _ (c t : List ℕ) (sized : length t ≡ tagSize) where
 
 pub ciphertextPart-bytes : (input : List ℕ) → Bytes input → Bytes (ciphertextPart input)
 ciphertextPart-bytes input b = subst Bytes (parts input .before) (Bytes-take (length (ciphertextPart input)) input b)
+
+pub tagPart-bytes : (input : List ℕ) → Bytes input → Bytes (tagPart input)
+tagPart-bytes input b = subst Bytes (parts input .behind) (Bytes-drop (length (ciphertextPart input)) input b)
 
 -- ---- lengths
 

@@ -18,24 +18,29 @@ use Rattle.grain128aead.specs.Calls.{openingRow, recovered, opened}
 use Rattle.grain128aead.specs.Demand1.{Demand1}
 use Rattle.grain128aead.specs.Demand2.{Demand2}
 use Rattle.grain128aead.specs.Demand3.{Demand3}
+use Rattle.grain128aead.specs.Substitution.{Substitution}
 use Rattle.grain128aead.proofs.Demand2.{demand1-opening, demand2}
 use Rattle.grain128aead.proofs.Demand3.{demand3}
+use Rattle.grain128aead.proofs.Substitution.{substitution}
 use Rattle.grain128aead.proofs.Entry.{openingSizes, OpenChecked, Compared, open-failed, open-clear, open-reaches, open-passed, open-differs}
 use Rattle.grain128aead.proofs.Settled.{sizesOf}
 use Rattle.grain128aead.proofs.open.Statement.{statement}
 use Rattle.grain128aead.proofs.open.Tie as tie
 
--- The call's four clauses from the first of them.
+-- The call's five clauses from the first of them.
 called : (key nonce ad input out : List ℕ) {o : Outcome} → Bytes input → o ≡ opened key nonce ad input out
     → (o ≡ opened key nonce ad input out)
-    × (Demand1 (openingRow key nonce ad input out) (recovered key nonce ad input) out o × (Demand2 key nonce ad input out o × Demand3 key nonce ad input out o))
+    × (Demand1 (openingRow key nonce ad input out) (recovered key nonce ad input) out o × (Demand2 key nonce ad input out o × (Demand3 key nonce ad input out o × Substitution key nonce ad input out o)))
 called key nonce ad input out b e = (
   e,
   (
     subst (Demand1 (openingRow key nonce ad input out) (recovered key nonce ad input) out) (sym e) (demand1-opening key nonce ad input out),
     (
       subst (Demand2 key nonce ad input out) (sym e) (demand2 key nonce ad input out b),
-      subst (Demand3 key nonce ad input out) (sym e) (demand3 key nonce ad input out),
+      (
+        subst (Demand3 key nonce ad input out) (sym e) (demand3 key nonce ad input out),
+        subst (Substitution key nonce ad input out) (sym e) (substitution key nonce ad input out b),
+      ),
     ),
   ),
 )

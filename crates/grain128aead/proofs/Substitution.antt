@@ -1,0 +1,92 @@
+-- Substitution: opening compared with a genuine payload of any lengths.
+-- Assumes nothing.
+use mathlib.Core.Path.{_≡_, refl, sym, ap, ap₂, _∙_, subst}
+use mathlib.Core.Logic.{_↔_}
+use mathlib.Core.Bool.{Bool, true, false, cond}
+use mathlib.Core.List.{List}
+use Prim.Native.Nat.{ℕ}
+use native.Mathlib.Omega.{arith}
+use lib.ListN.{length}
+use Rattle.bits.specs.Bytes.{Bytes, bits}
+use Rattle.bits.specs.Strings.{_⊞_, zeros}
+use Rattle.refusals.specs.declared.Refusal.the-variants.{TagDiffers}
+use Rattle.refusals.specs.Outcome.{Outcome, refused, success}
+use Rattle.payload.specs.Sizes.{tagSize}
+use Rattle.payload.specs.Payload.{ciphertext, tag, payload, tagPart}
+use Rattle.payload.proofs.Payload.{tagPart-joined, parts, tagPart-bytes, length-tag}
+use Rattle.payload.proofs.TwoTags.{tag-bytes, tag-self, second-tag}
+use Rattle.grain128aead.specs.Calls.{recovered, tagDiffers, opened}
+use Rattle.grain128aead.specs.Demand3.{Verdict}
+use Rattle.grain128aead.specs.Substitution.{Genuine, Fits, differing, Substitution}
+use Rattle.grain128aead.proofs.Rows.{Authentic, tag-authentic, authentic-tag}
+use Rattle.grain128aead.proofs.Demand2.{InOrder, opening-tag, opening-in-order}
+
+-- With the sizes in order, opening goes by whatever holds exactly when the tag is the recomputed one.
+module _ (key nonce ad input out : List ℕ) (o : InOrder key nonce ad input out)
+    {agrees : Type 0} (same : Authentic key nonce ad input ↔ agrees) {message : List ℕ} (hidden : recovered key nonce ad input ≡ message) where
+  by-tag : (differs : Bool) → tagDiffers key nonce ad input ≡ differs → opened key nonce ad input out ≡ cond differs (refused TagDiffers out) (success message out)
+  by-tag differs h =
+      opening-tag key nonce ad input out o
+      ∙ ap₂ (λ (b : Bool) (w : List ℕ). cond b (refused TagDiffers out) (success w out)) h hidden
+
+  returns : agrees → opened key nonce ad input out ≡ success message out
+  returns h = by-tag false (authentic-tag key nonce ad input (same .1 h))
+
+  refuses : ¬ agrees → (differs : Bool) → tagDiffers key nonce ad input ≡ differs → opened key nonce ad input out ≡ refused TagDiffers out
+  refuses fails true h = by-tag true h
+  refuses fails false h = absurd (fails (same .0 (tag-authentic key nonce ad input h)))
+
+  pub verdict : Verdict agrees message out (opened key nonce ad input out)
+  verdict = record {
+    accepts = (λ a. same .0 (opening-in-order key nonce ad input out a .1), λ h. (_, ap (λ (c : Outcome). c .answer) (returns h)));
+    returns = returns;
+    refuses = λ fails. refuses fails (tagDiffers key nonce ad input) refl;
+  }
+
+module _ {key nonce : List ℕ} (g : Genuine key nonce) where
+  pub tag-part : tagPart (g .payload) ≡ tag key nonce (g .ad) (g .message)
+  unfolding payload
+  tag-part =
+      ap tagPart (sym (g .makes .made))
+      ∙ tagPart-joined (ciphertext key nonce (g .ad) (g .message)) (tag key nonce (g .ad) (g .message)) (length-tag key nonce (g .ad) (g .message))
+
+  module _ (ad input : List ℕ) where
+    -- The input's tag is the recomputed one exactly when the registers add up to its sum with the genuine one.
+    pub authentic-sum : Bytes (tagPart input) → length (tagPart input) ≡ tagSize
+        → Authentic key nonce ad input ↔ (differing g ad input ≡ bits (tagPart (g .payload)) ⊞ bits (tagPart input))
+    authentic-sum b e =
+        subst (λ (t : List ℕ). Authentic key nonce ad input ↔ (differing g ad input ≡ bits t ⊞ bits (tagPart input))) (sym tag-part)
+        (second-tag key nonce (g .ad) (g .message) ad (recovered key nonce ad input) (tagPart input) (g .makes .legal .keySized) (g .makes .legal .nonceSized) b e)
+
+    in-order : (out : List ℕ) → Fits ad input out → length (tagPart input) ≡ tagSize → InOrder key nonce ad input out
+    in-order out fits e = record {
+      keySized = g .makes .legal .keySized;
+      nonceSized = g .makes .legal .nonceSized;
+      adFits = fits .adFits;
+      inputFits = omega (arith, parts input .lengths, fits .messageFits);
+      reaches = omega (arith, parts input .lengths);
+      room = omega (arith, parts input .lengths, fits .room);
+    }
+
+    any-tag : (out : List ℕ) → Bytes (tagPart input) → Fits ad input out → length (tagPart input) ≡ tagSize
+        → Verdict (differing g ad input ≡ bits (tagPart (g .payload)) ⊞ bits (tagPart input)) (recovered key nonce ad input) out (opened key nonce ad input out)
+    any-tag out b fits e = verdict key nonce ad input out (in-order out fits e) (authentic-sum b e) refl
+
+    -- The same tag adds up to zero with itself.
+    same-tag : (out : List ℕ) → Fits ad input out → tagPart input ≡ tagPart (g .payload)
+        → Verdict (differing g ad input ≡ zeros 64) (recovered key nonce ad input) out (opened key nonce ad input out)
+    same-tag out fits e =
+        subst (λ (z : List Bool). Verdict (differing g ad input ≡ z) (recovered key nonce ad input) out (opened key nonce ad input out)) none
+        (any-tag out (subst Bytes (sym whole) (tag-bytes key nonce (g .ad) (g .message))) fits (ap length whole ∙ length-tag key nonce (g .ad) (g .message)))
+      where
+        whole : tagPart input ≡ tag key nonce (g .ad) (g .message)
+        whole = e ∙ tag-part
+
+        none : bits (tagPart (g .payload)) ⊞ bits (tagPart input) ≡ zeros 64
+        none = ap₂ (λ (s t : List ℕ). bits s ⊞ bits t) tag-part whole ∙ tag-self key nonce (g .ad) (g .message)
+
+pub substitution : (key nonce ad input out : List ℕ) → Bytes input → Substitution key nonce ad input out (opened key nonce ad input out)
+substitution key nonce ad input out b = record {
+  sameTag = λ g. same-tag g ad input out;
+  anyTag = λ g. any-tag g ad input out (tagPart-bytes input b);
+}

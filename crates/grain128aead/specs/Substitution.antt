@@ -1,0 +1,60 @@
+-- Substitution: an AD and an input of any lengths, opened under the key and the nonce of a genuine payload (document 02, C-23).
+use mathlib.Core.Path.{_≡_}
+use mathlib.Core.Bool.{Bool}
+use mathlib.Core.List.{List}
+use Prim.Native.Nat.{ℕ, _≤_}
+use lib.ListN.{length}
+use Rattle.bits.specs.Bytes.{Bytes, bits, flip}
+use Rattle.bits.specs.Strings.{_⊞_, zeros}
+use Rattle.refusals.specs.Outcome.{Outcome}
+use Rattle.payload.specs.Sizes.{tagSize}
+use Rattle.payload.specs.Payload.{ciphertextPart, tagPart}
+use Rattle.payload.specs.Laws.{flippedRegisters}
+use Rattle.payload.specs.TwoTags.{differingRegisters}
+use Rattle.grain128aead.specs.Sizes.{adLimit, messageLimit}
+use Rattle.grain128aead.specs.Calls.{recovered}
+use Rattle.grain128aead.specs.Demand2.{Makes}
+use Rattle.grain128aead.specs.Demand3.{Flipped, Verdict}
+
+-- A genuine payload under a key and a nonce, and the AD and the message that make it.
+pub record Genuine (key nonce : List ℕ) : Type 0 where
+  pub ad : List ℕ
+  pub message : List ℕ
+  pub payload : List ℕ
+  pub makes : Makes key nonce ad message payload
+
+-- The AD and the message are of legal sizes, and there is room for the message.
+pub record Fits (ad input out : List ℕ) : Type 0 where
+  pub adFits : length ad ≤ adLimit
+  pub messageFits : length (ciphertextPart input) ≤ messageLimit
+  pub room : length (ciphertextPart input) ≤ length out
+
+-- The registers at all positions where the strings of the genuine payload and of what is opened differ, the shorter one continued with
+-- zeros, added up.
+abbrev pub differing : {key nonce : List ℕ} → Genuine key nonce → (ad input : List ℕ) → List Bool
+differing {key} {nonce} g ad input = differingRegisters key nonce (g .ad) (g .message) ad (recovered key nonce ad input)
+
+-- The genuine payload's tag put under another AD and another ciphertext is accepted exactly when these registers add up to zero; any tag, exactly
+-- when they add up to the sum of the two tags.
+pub record Substitution (key nonce ad input out : List ℕ) (o : Outcome) : Type 0 where
+  pub sameTag : (g : Genuine key nonce) → Fits ad input out → tagPart input ≡ tagPart (g .payload)
+      → Verdict (differing g ad input ≡ zeros 64) (recovered key nonce ad input) out o
+  pub anyTag : (g : Genuine key nonce) → Fits ad input out → length (tagPart input) ≡ tagSize
+      → Verdict (differing g ad input ≡ bits (tagPart (g .payload)) ⊞ bits (tagPart input)) (recovered key nonce ad input) out o
+
+-- The genuine payload of demand 3.
+abbrev pub genuine : {key nonce ad input : List ℕ} → Flipped key nonce ad input → Genuine key nonce
+genuine f = record { ad = f .oldAd; message = f .oldMessage; payload = f .oldPayload; makes = f .genuine }
+
+-- Demand 3 is the case of equal lengths. Both sides of its condition are those of the condition on any tag, and the message is the same.
+pub record EqualLengths {key nonce ad input : List ℕ} (f : Flipped key nonce ad input) : Type 0 where
+  pub registers : flippedRegisters key nonce (f .oldAd) (f .inAd) (f .inCiphertext) ≡ differing (genuine f) ad input
+  pub tags : f .inTag ≡ bits (tagPart (f .oldPayload)) ⊞ bits (tagPart input)
+  pub message : flip (f .oldMessage) (f .inCiphertext) ≡ recovered key nonce ad input
+
+-- Every AD and every input of the lengths of the genuine ones are these with bits flipped.
+abbrev pub EveryFlip : Type 0
+EveryFlip =
+    (key nonce ad input : List ℕ) (g : Genuine key nonce) → Bytes ad → Bytes input
+    → length ad ≡ length (g .ad) → length input ≡ length (g .payload)
+    → (f : Flipped key nonce ad input) × (genuine f ≡ g)

@@ -1,0 +1,153 @@
+// Two tags under one key and nonce, of pairs of AD and message of other lengths (document 02, C-23). Their sum is the sum of the
+// registers at the positions where the two authenticated strings differ, the shorter one continued with zeros.
+use crate::tally;
+use crate::tally::Tally;
+use machine::engine::Engine;
+use preoutput::Streamed;
+
+const KEY: [u8; 16] = [
+    0x01,
+    0x23,
+    0x45,
+    0x67,
+    0x89,
+    0xab,
+    0xcd,
+    0xef,
+    0x12,
+    0x34,
+    0x56,
+    0x78,
+    0x9a,
+    0xbc,
+    0xde,
+    0xf0,
+];
+
+const NONCE: [u8; 12] = [
+    0x01,
+    0x23,
+    0x45,
+    0x67,
+    0x89,
+    0xab,
+    0xcd,
+    0xef,
+    0x12,
+    0x34,
+    0x56,
+    0x78,
+];
+
+// The longest string here, in bits.
+const LONGEST: usize = 96;
+
+// A string's byte; past its end, zero.
+fn byte(s: &[u8], i: usize) -> u8 {
+    if i < s.len() {
+        return s[i];
+    }
+    0
+}
+
+fn differ(s: &[u8], t: &[u8], position: usize) -> bool {
+    let i = position / 8;
+    let bits = byte(s, i) ^ byte(t, i);
+    (bits >> (7 - position % 8)) % 2 == 1
+}
+
+// The machine after a zero of the string.
+fn next(e: Engine) -> Engine {
+    let registers = e.registers;
+    let s = preoutput::two_clocks(Streamed {
+        registers,
+        keystream: 0,
+        authentication: 0,
+    });
+    let clocked = s.registers;
+    Engine {
+        registers: clocked,
+        tagger: authenticator::absorb(e.tagger, 0, s.authentication),
+    }
+}
+
+// The registers at the positions where two strings differ, added up; where asked, each is shown.
+fn registers(s: &[u8], t: &[u8], show: bool) -> u64 {
+    let mut now = startup::start(&KEY, &NONCE);
+    let mut sum: u64 = 0;
+    let mut i: usize = 0;
+    while i < LONGEST {
+        if differ(s, t, i) {
+            let tagger = now.tagger;
+            sum = sum ^ tagger.register;
+            if show {
+                tally::word_at(b"register at position ", i, tagger.register);
+            }
+        }
+        now = next(now);
+        i += 1;
+    }
+    sum
+}
+
+// The eight bytes of a slice from place n on; where it does not have them, all of it.
+fn eight(s: &[u8], n: usize) -> &[u8] {
+    let length = s.len();
+    if n <= length {
+        if 8 <= length - n {
+            return &s[n..n + 8];
+        }
+    }
+    s
+}
+
+// The tag of an AD and a message of at most eight bytes, as sealing gives it.
+fn tag(ad: &[u8], message: &[u8]) -> u64 {
+    let mut sealed = [0u8; 16];
+    capi::tikhoplav_seal(&KEY, &NONCE, ad, message, &mut sealed);
+    bits::number(eight(&sealed, message.len()))
+}
+
+pub fn run(t: Tally) -> Tally {
+    let first = tag(&[0xa5], &[0x3c]);
+    let second = tag(&[0xa5, 0x3c], &[0x80, 0x00]);
+    let third = tag(
+        &[0xa5, 0x3c],
+        &[0x81, 0x29, 0x44, 0xed, 0xc3, 0x15, 0x7a, 0xd6],
+    );
+    // The strings: the coded length, the AD, the message, and the final 1 with seven zeros behind it.
+    let string1 = [0x01, 0xa5, 0x3c, 0x80];
+    let string2 = [0x02, 0xa5, 0x3c, 0x80, 0x00, 0x80];
+    let string3 = [
+        0x02,
+        0xa5,
+        0x3c,
+        0x81,
+        0x29,
+        0x44,
+        0xed,
+        0xc3,
+        0x15,
+        0x7a,
+        0xd6,
+        0x80,
+    ];
+
+    tally::word(b"tag of AD A5, message 3C: ", first);
+    tally::word(b"tag of AD A5 3C, message 80 00: ", second);
+    let sum = registers(&string1, &string2, true);
+    tally::word(b"sum of these registers: ", sum);
+    tally::word(b"sum of the two tags: ", first ^ second);
+    let t1 = tally::line(t, b"the two sums are equal", sum == first ^ second);
+    tally::word(b"tag of AD A5 3C, message 81 29 44 ED C3 15 7A D6: ", third);
+    let none = registers(&string1, &string3, false);
+    tally::word(
+        b"sum of the registers where its string differs from that of AD A5, message 3C: ",
+        none,
+    );
+    tally::line(
+        t1,
+        b"the sum is zero, and the two tags are equal",
+        none == 0 && third == first,
+    )
+}
