@@ -1,8 +1,9 @@
-// Runs the published vectors on the machine below the entry points, and document 01's unstarred examples on the calls. Prints a line
-// for each, and the counts.
+// Runs the published vectors on the machine below the entry points, document 01's unstarred examples on the calls, and the sum of two
+// tags beside that of registers. Prints a line for each, and the counts.
 mod examples;
 mod published;
 mod tally;
+mod two_tags;
 
 use tally::Tally;
 
@@ -11,5 +12,6 @@ fn main() {
     let vectors = published::run(begun);
     let edges = examples::edges(vectors);
     let refusals = examples::order(edges);
-    tally::close(examples::largest(refusals));
+    let largest = examples::largest(refusals);
+    tally::close(two_tags::run(largest));
 }

@@ -3,6 +3,41 @@ use crate::tally::Tally;
 use machine::engine;
 use machine::engine::Engine;
 
+// The second vector's.
+pub const KEY: [u8; 16] = [
+    0x01,
+    0x23,
+    0x45,
+    0x67,
+    0x89,
+    0xab,
+    0xcd,
+    0xef,
+    0x12,
+    0x34,
+    0x56,
+    0x78,
+    0x9a,
+    0xbc,
+    0xde,
+    0xf0,
+];
+
+pub const NONCE: [u8; 12] = [
+    0x01,
+    0x23,
+    0x45,
+    0x67,
+    0x89,
+    0xab,
+    0xcd,
+    0xef,
+    0x12,
+    0x34,
+    0x56,
+    0x78,
+];
+
 // Whether the first sixteen keystream bytes are those given: zeros are enciphered.
 fn keystream_is(e: Engine, expected: &[u8; 16]) -> bool {
     let mut now = e;
@@ -50,39 +85,7 @@ pub fn run(t: Tally) -> Tally {
         engine::finish(zeros) == 0xaab5_55c0_73e6_7664,
     );
 
-    let key = [
-        0x01,
-        0x23,
-        0x45,
-        0x67,
-        0x89,
-        0xab,
-        0xcd,
-        0xef,
-        0x12,
-        0x34,
-        0x56,
-        0x78,
-        0x9a,
-        0xbc,
-        0xde,
-        0xf0,
-    ];
-    let nonce = [
-        0x01,
-        0x23,
-        0x45,
-        0x67,
-        0x89,
-        0xab,
-        0xcd,
-        0xef,
-        0x12,
-        0x34,
-        0x56,
-        0x78,
-    ];
-    let second = startup::start(&key, &nonce);
+    let second = startup::start(&KEY, &NONCE);
     let stream2 = [
         0xc2,
         0xb9,

@@ -45,6 +45,24 @@ pub fn sized(t: Tally, name: &[u8], size: usize, rest: &[u8], ok: bool) -> Tally
     counted(t, ok)
 }
 
+// A line that shows a word and is not counted.
+pub fn word(name: &[u8], shown: u64) {
+    io::write_all(STDOUT_FILENO, b"             ");
+    io::write_all(STDOUT_FILENO, name);
+    io::print_hex(STDOUT_FILENO, shown, 16);
+    io::write_all(STDOUT_FILENO, b"\n");
+}
+
+// The same with a position.
+pub fn word_at(name: &[u8], position: usize, shown: u64) {
+    io::write_all(STDOUT_FILENO, b"             ");
+    io::write_all(STDOUT_FILENO, name);
+    io::print_decimal(STDOUT_FILENO, position as u64);
+    io::write_all(STDOUT_FILENO, b": ");
+    io::print_hex(STDOUT_FILENO, shown, 16);
+    io::write_all(STDOUT_FILENO, b"\n");
+}
+
 pub fn close(t: Tally) {
     io::print_decimal(STDOUT_FILENO, t.good as u64);
     io::write_all(STDOUT_FILENO, b" as expected, ");

@@ -1,43 +1,11 @@
 // Two tags under one key and nonce, of pairs of AD and message of other lengths (document 02, C-23). Their sum is the sum of the
 // registers at the positions where the two authenticated strings differ, the shorter one continued with zeros.
+use crate::published::KEY;
+use crate::published::NONCE;
 use crate::tally;
 use crate::tally::Tally;
 use machine::engine::Engine;
 use preoutput::Streamed;
-
-const KEY: [u8; 16] = [
-    0x01,
-    0x23,
-    0x45,
-    0x67,
-    0x89,
-    0xab,
-    0xcd,
-    0xef,
-    0x12,
-    0x34,
-    0x56,
-    0x78,
-    0x9a,
-    0xbc,
-    0xde,
-    0xf0,
-];
-
-const NONCE: [u8; 12] = [
-    0x01,
-    0x23,
-    0x45,
-    0x67,
-    0x89,
-    0xab,
-    0xcd,
-    0xef,
-    0x12,
-    0x34,
-    0x56,
-    0x78,
-];
 
 // The longest string here, in bits.
 const LONGEST: usize = 96;
@@ -108,17 +76,25 @@ fn tag(ad: &[u8], message: &[u8]) -> u64 {
     bits::number(eight(&sealed, message.len()))
 }
 
-pub fn run(t: Tally) -> Tally {
+// The string of AD A5 and message 3C: the coded length, the AD, the message, and the final 1 with seven zeros behind it.
+const FIRST: [u8; 4] = [0x01, 0xa5, 0x3c, 0x80];
+
+// Against AD A5 3C and message 80 00.
+fn few_positions(t: Tally) -> Tally {
     let first = tag(&[0xa5], &[0x3c]);
     let second = tag(&[0xa5, 0x3c], &[0x80, 0x00]);
-    let third = tag(
-        &[0xa5, 0x3c],
-        &[0x81, 0x29, 0x44, 0xed, 0xc3, 0x15, 0x7a, 0xd6],
-    );
-    // The strings: the coded length, the AD, the message, and the final 1 with seven zeros behind it.
-    let string1 = [0x01, 0xa5, 0x3c, 0x80];
-    let string2 = [0x02, 0xa5, 0x3c, 0x80, 0x00, 0x80];
-    let string3 = [
+    tally::word(b"tag of AD A5, message 3C: ", first);
+    tally::word(b"tag of AD A5 3C, message 80 00: ", second);
+    let sum = registers(&FIRST, &[0x02, 0xa5, 0x3c, 0x80, 0x00, 0x80], true);
+    tally::word(b"sum of these registers: ", sum);
+    tally::word(b"sum of the two tags: ", first ^ second);
+    tally::line(t, b"the two sums are equal", sum == first ^ second)
+}
+
+// Against AD A5 3C and a message that solves the 64 equations.
+fn equal_tags(t: Tally) -> Tally {
+    let message = [0x81, 0x29, 0x44, 0xed, 0xc3, 0x15, 0x7a, 0xd6];
+    let string = [
         0x02,
         0xa5,
         0x3c,
@@ -132,22 +108,24 @@ pub fn run(t: Tally) -> Tally {
         0xd6,
         0x80,
     ];
-
-    tally::word(b"tag of AD A5, message 3C: ", first);
-    tally::word(b"tag of AD A5 3C, message 80 00: ", second);
-    let sum = registers(&string1, &string2, true);
-    tally::word(b"sum of these registers: ", sum);
-    tally::word(b"sum of the two tags: ", first ^ second);
-    let t1 = tally::line(t, b"the two sums are equal", sum == first ^ second);
-    tally::word(b"tag of AD A5 3C, message 81 29 44 ED C3 15 7A D6: ", third);
-    let none = registers(&string1, &string3, false);
+    let first = tag(&[0xa5], &[0x3c]);
+    let second = tag(&[0xa5, 0x3c], &message);
+    let sum = registers(&FIRST, &string, false);
     tally::word(
-        b"sum of the registers where its string differs from that of AD A5, message 3C: ",
-        none,
+        b"tag of AD A5 3C, message 81 29 44 ED C3 15 7A D6: ",
+        second,
+    );
+    tally::word(
+        b"sum of the registers where its string differs from the first: ",
+        sum,
     );
     tally::line(
-        t1,
-        b"the sum is zero, and the two tags are equal",
-        none == 0 && third == first,
+        t,
+        b"this sum is zero, and the tags are equal",
+        sum == 0 && first == second,
     )
+}
+
+pub fn run(t: Tally) -> Tally {
+    equal_tags(few_positions(t))
 }
