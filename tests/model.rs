@@ -47,7 +47,7 @@ fn move_down(places: &mut [u8], new: u8) {
 }
 
 /// The bits of a byte string, the top bit of each byte first.
-fn bits(bytes: &[u8]) -> Vec<u8> {
+pub fn bits(bytes: &[u8]) -> Vec<u8> {
     let of_byte = |&byte: &u8| (0..8).map(move |place| (byte >> (7 - place)) & 1);
     bytes.iter().flat_map(of_byte).collect()
 }

@@ -121,6 +121,25 @@ END
   done
 }
 
+another_tag() { # the tag of AD a5 and message 3c, under the AD and the ciphertext of pairs of other lengths
+  local options=(--key 0123456789abcdef123456789abcdef0 --nonce 0123456789abcdef12345678 --hex-in --hex-out) payload tag
+  echo 3c >input
+  run 0 seal "${options[@]}" --ad a5
+  payload=$(cat output) tag=d6c32c33d667067f
+  check "the tag" [ "${payload: -16}" = "$tag" ]
+  echo 8000 >input
+  run 0 seal "${options[@]}" --ad a53c
+  payload=$(cat output)
+  echo "${payload::-16}$tag" >input
+  refuses 7 "$wrong_tag" open "${options[@]}" --ad a53c
+  echo 812944edc3157ad6 >input
+  run 0 seal "${options[@]}" --ad a53c
+  payload=$(cat output)
+  echo "${payload::-16}$tag" >input
+  run 0 open "${options[@]}" --ad a53c
+  check "opened with the other's tag" [ "$(cat output)" = 812944edc3157ad6 ]
+}
+
 file_in_place() {
   echo "engine 2400 rpm" >log
   run 0 seal "${secrets[@]}" --in log --out log
@@ -251,6 +270,7 @@ help_and_selftest() {
 round_trips
 hex
 ad_lengths
+another_tag
 file_in_place
 parts
 refusals

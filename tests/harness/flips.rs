@@ -4,8 +4,8 @@
 
 use crate::judge::{Judge, Verdict};
 use crate::random::Random;
+use crate::registers;
 use crate::trial::Trial;
-use model::Machine;
 use tikhoplav::sizes::{AD_MAX, MESSAGE_MAX};
 
 const PAYLOADS: usize = 60;
@@ -114,16 +114,6 @@ fn add(bytes: &mut [u8], flips: &[u8]) {
 /// The string begins with the coded AD length, whose bits are never flipped.
 fn sum_of_registers(sealing: &Trial, flips: &Flips) -> u64 {
     let coded_length = vec![0; model::coded_length(sealing.ad.len()).len()];
-    let string = [&coded_length, &flips.ad, &flips.ciphertext];
-    let mut machine = Machine::start(&sealing.key, &sealing.nonce);
-    let mut sum = 0;
-    for byte in string.into_iter().flatten() {
-        for place in 0..8 {
-            if (byte >> (7 - place)) & 1 == 1 {
-                sum ^= machine.register();
-            }
-            machine.absorb(0);
-        }
-    }
-    sum
+    let bits = model::bits(&[&coded_length, &flips.ad[..], &flips.ciphertext].concat());
+    registers::sum(&registers::contents(sealing, bits.len()), &bits)
 }

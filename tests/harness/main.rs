@@ -8,8 +8,10 @@ mod order;
 mod outputs;
 mod parts;
 mod random;
+mod registers;
 mod sizes;
 mod trial;
+mod two_tags;
 mod vectors;
 
 use judge::{Judge, Verdict};
@@ -20,7 +22,7 @@ const SEED: u64 = 128;
 
 type Group = fn(&mut Judge) -> Verdict;
 
-const GROUPS: [(&str, Group); 19] = [
+const GROUPS: [(&str, Group); 22] = [
     ("published vectors, on the model", vectors::published),
     (
         "stored answers of the selftest, on the model",
@@ -43,6 +45,9 @@ const GROUPS: [(&str, Group); 19] = [
     ("flips at every position", flips::every_position),
     ("flips at random", flips::random),
     ("flips in the largest payload", flips::largest),
+    ("two tags of random lengths", two_tags::random),
+    ("two tags of chosen lengths", two_tags::chosen),
+    ("two pairs with one tag", two_tags::colliding),
 ];
 
 fn main() -> ExitCode {

@@ -66,6 +66,15 @@ impl Trial {
         }
     }
 
+    /// The same under the key and the nonce of another.
+    pub fn under(self, other: &Trial) -> Trial {
+        Trial {
+            key: other.key.clone(),
+            nonce: other.nonce.clone(),
+            ..self
+        }
+    }
+
     /// The input in hex, for a report.
     pub fn shown(&self) -> String {
         format!(

@@ -1,0 +1,21 @@
+//! The authenticator register's contents under a trial's key and nonce, by the model.
+
+use crate::trial::Trial;
+use model::Machine;
+
+/// The register at each of the first positions of a string, whatever the string.
+pub fn contents(trial: &Trial, positions: usize) -> Vec<u64> {
+    let mut machine = Machine::start(&trial.key, &trial.nonce);
+    let register = |_| {
+        let content = machine.register();
+        machine.absorb(0);
+        content
+    };
+    (0..positions).map(register).collect()
+}
+
+/// The registers at the positions where these bits are 1, added up.
+pub fn sum(contents: &[u64], bits: &[u8]) -> u64 {
+    let ones = contents.iter().zip(bits).filter(|(_, &bit)| bit == 1);
+    ones.fold(0, |sum, (content, _)| sum ^ content)
+}
