@@ -126,7 +126,7 @@ another_tag() { # the tag of AD a5 and message 3c, under the AD and the cipherte
   echo 3c >input
   run 0 seal "${options[@]}" --ad a5
   payload=$(cat output) tag=d6c32c33d667067f
-  check "the tag" [ "${payload: -16}" = "$tag" ]
+  check "AD a5, message 3c" [ "$payload" = "24$tag" ]
   echo 8000 >input
   run 0 seal "${options[@]}" --ad a53c
   payload=$(cat output)
@@ -134,8 +134,8 @@ another_tag() { # the tag of AD a5 and message 3c, under the AD and the cipherte
   refuses 7 "$wrong_tag" open "${options[@]}" --ad a53c
   echo 812944edc3157ad6 >input
   run 0 seal "${options[@]}" --ad a53c
-  payload=$(cat output)
-  echo "${payload::-16}$tag" >input
+  check "AD a53c, message 812944edc3157ad6" [ "$(cat output)" = "4793b233639328d6$tag" ]
+  cp output input
   run 0 open "${options[@]}" --ad a53c
   check "opened with the other's tag" [ "$(cat output)" = 812944edc3157ad6 ]
 }
