@@ -1,4 +1,4 @@
--- Demand 3: strings tell pairs apart, and which flips opening accepts.
+-- Demand 3: strings tell pairs apart, and which flips opening accepts, as the case of equal lengths of what it accepts of any.
 -- Assumes nothing.
 use mathlib.Core.Path.{_≡_, refl, sym, ap, ap₂, _∙_, subst}
 use mathlib.Core.Logic.{_↔_}
@@ -103,6 +103,7 @@ module _ {key nonce ad input : List ℕ} (f : Flipped key nonce ad input) where
     message = sym recovers;
   }
 
+  -- So the condition on any tag is the one on flips.
   authentic-agrees : Authentic key nonce ad input ↔ Agrees f
   unfolding t′
   authentic-agrees =
@@ -120,6 +121,7 @@ module _ {key nonce ad input : List ℕ} (f : Flipped key nonce ad input) where
 pub demand3 : (key nonce ad input out : List ℕ) → Demand3 key nonce ad input out (opened key nonce ad input out)
 demand3 key nonce ad input out f room = verdict key nonce ad input out (in-order f out room) (authentic-agrees f) (recovers f)
 
+-- The flips are the sums of the genuine strings and those that are opened.
 pub every-flip : EveryFlip
 every-flip key nonce ad input g b c la li = (
   record {
