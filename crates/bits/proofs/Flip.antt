@@ -47,8 +47,8 @@ pub sum-flip : (s : List ℕ) (d : List Bool) → Flips s d → bits s ⊞ bits 
 sum-flip s d h = ap (λ (r : List Bool). bits s ⊞ r) (bits-flip s d h) ∙ sum-twice (bits s) d (le-of-eq (length-bits s ∙ sym h))
 
 -- The sum of two strings of one length has a flip for each bit, and with these flips the first is the second.
-pub sum-flips : (s t : List ℕ) → length s ≡ length t → Flips s (bits s ⊞ bits t)
-sum-flips s t e = length-sum (bits s) (bits t) (as-many-bits s t e) ∙ length-bits s
+pub length-sum-bits : (s t : List ℕ) → length s ≡ length t → Flips s (bits s ⊞ bits t)
+length-sum-bits s t e = length-sum (bits s) (bits t) (as-many-bits s t e) ∙ length-bits s
 
 pub flip-sum : (s t : List ℕ) → Bytes t → length s ≡ length t → flip s (bits s ⊞ bits t) ≡ t
 unfolding flip

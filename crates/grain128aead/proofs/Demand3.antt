@@ -1,4 +1,4 @@
--- Demand 3: strings tell pairs apart, and which flips opening accepts, as the case of equal lengths of what it accepts of any.
+-- Demand 3: strings tell pairs apart, and which flips opening accepts: substitution at equal lengths.
 -- Assumes nothing.
 use mathlib.Core.Path.{_≡_, refl, sym, ap, ap₂, _∙_, subst}
 use mathlib.Core.Logic.{_↔_}
@@ -11,7 +11,7 @@ use lib.ListN.{length, take, drop, length-append, length-drop, take-append-drop}
 use lib.Seq.{length-take-le}
 use Rattle.bits.specs.Bytes.{Bytes, bits, flip}
 use Rattle.bits.specs.Strings.{_⊞_}
-use Rattle.bits.proofs.Flip.{Flips, length-flip, flip-flip, flip-append, sum-flip, sum-flips, flip-sum}
+use Rattle.bits.proofs.Flip.{Flips, length-flip, flip-flip, flip-append, sum-flip, length-sum-bits, flip-sum}
 use Rattle.bits.proofs.Packing.{bytes-are-bytes}
 use Rattle.bits.proofs.Sum.{sum-comm, sum-twice}
 use Rattle.payload.specs.Sizes.{tagSize}
@@ -19,7 +19,7 @@ use Rattle.payload.specs.Payload.{ciphertext, deciphered, tag, payload, ciphert
 use Rattle.payload.specs.TwoTags.{differingRegisters}
 use Rattle.payload.proofs.AuthenticatedString.{unambiguous}
 use Rattle.payload.proofs.Payload.{ciphertextPart-joined, tagPart-joined, length-ciphertext, length-tag, length-payload, under, length-under, ciphertext-flip, deciphered-flip, under-same}
-use Rattle.payload.proofs.Flips.{flipped-lengths}
+use Rattle.payload.proofs.EqualLengths.{flipped-lengths}
 use Rattle.grain128aead.specs.Sizes.{adLimit}
 use Rattle.grain128aead.specs.Calls.{recovered, opened}
 use Rattle.grain128aead.specs.Demand2.{Legal}
@@ -132,7 +132,7 @@ every-flip key nonce ad input g b c la li = (
     inAd = bits (g .ad) ⊞ bits ad;
     inCiphertext = take n flips;
     inTag = drop n flips;
-    adFlips = sum-flips (g .ad) ad (sym la);
+    adFlips = length-sum-bits (g .ad) ad (sym la);
     ciphertextFlips = length-take-le n flips (omega (arith, both, long));
     tagFlips = omega (arith, length-drop n flips, both, long);
     flippedAd = sym (flip-sum (g .ad) ad b (sym la));
@@ -148,7 +148,7 @@ every-flip key nonce ad input g b c la li = (
     flips = bits (g .payload) ⊞ bits input
 
     both : Flips (g .payload) flips
-    both = sum-flips (g .payload) input (sym li)
+    both = length-sum-bits (g .payload) input (sym li)
 
     long : length (g .payload) ≡ length (g .message) + tagSize
     long = ap length (sym (g .makes .made)) ∙ length-payload key nonce (g .ad) (g .message)

@@ -4,22 +4,22 @@ use mathlib.Core.Path.{_≡_, refl, sym, ap, ap₂, _∙_, subst}
 use mathlib.Core.Logic.{_↔_}
 use mathlib.Core.Bool.{Bool, true, false, cond}
 use mathlib.Core.List.{List}
-use Prim.Native.Nat.{ℕ}
-use native.Mathlib.Omega.{arith}
+use Prim.Native.Nat.{ℕ, _+_, _≤_}
 use lib.ListN.{length}
 use Rattle.bits.specs.Bytes.{Bytes, bits}
-use Rattle.bits.specs.Strings.{_⊞_, zeros}
+use Rattle.bits.specs.Strings.{_⊞_}
 use Rattle.refusals.specs.declared.Refusal.the-variants.{TagDiffers}
 use Rattle.refusals.specs.Outcome.{Outcome, refused, success}
 use Rattle.payload.specs.Sizes.{tagSize}
-use Rattle.payload.specs.Payload.{ciphertext, tag, payload, tagPart}
-use Rattle.payload.proofs.Payload.{tagPart-joined, parts, tagPart-bytes, length-tag}
-use Rattle.payload.proofs.TwoTags.{tag-bytes, tag-self, second-tag}
+use Rattle.payload.specs.Payload.{ciphertext, tag, payload, ciphertextPart, tagPart}
+use Rattle.payload.proofs.Payload.{tagPart-joined, parts, tagPart-bytes, length-deciphered, length-tag}
+use Rattle.payload.proofs.TwoTags.{tag-self, second-tag}
 use Rattle.grain128aead.specs.Calls.{recovered, tagDiffers, opened}
+use Rattle.grain128aead.specs.Demand2.{Legal}
 use Rattle.grain128aead.specs.Demand3.{Verdict}
-use Rattle.grain128aead.specs.Substitution.{Genuine, Fits, differing, Substitution}
+use Rattle.grain128aead.specs.Substitution.{Genuine, differing, Substitution}
 use Rattle.grain128aead.proofs.Rows.{Authentic, tag-authentic, authentic-tag}
-use Rattle.grain128aead.proofs.Demand2.{InOrder, opening-tag, opening-in-order}
+use Rattle.grain128aead.proofs.Demand2.{InOrder, legal-in-order, opening-tag, opening-in-order}
 
 -- With the sizes in order, opening goes by whatever holds exactly when the tag is the recomputed one.
 module _ (key nonce ad input out : List ℕ) (o : InOrder key nonce ad input out)
@@ -58,35 +58,23 @@ module _ {key nonce : List ℕ} (g : Genuine key nonce) where
         subst (λ (t : List ℕ). Authentic key nonce ad input ↔ (differing g ad input ≡ bits t ⊞ bits (tagPart input))) (sym tag-part)
         (second-tag key nonce (g .ad) (g .message) ad (recovered key nonce ad input) (tagPart input) (g .makes .legal .keySized) (g .makes .legal .nonceSized) b e)
 
-    in-order : (out : List ℕ) → Fits ad input out → length (tagPart input) ≡ tagSize → InOrder key nonce ad input out
-    in-order out fits e = record {
-      keySized = g .makes .legal .keySized;
-      nonceSized = g .makes .legal .nonceSized;
-      adFits = fits .adFits;
-      inputFits = omega (arith, parts input .lengths, fits .messageFits);
-      reaches = omega (arith, parts input .lengths);
-      room = omega (arith, parts input .lengths, fits .room);
-    }
-
-    any-tag : (out : List ℕ) → Bytes (tagPart input) → Fits ad input out → length (tagPart input) ≡ tagSize
+    any-tag : (out : List ℕ) → Bytes (tagPart input) → Legal key nonce ad (recovered key nonce ad input) → length (recovered key nonce ad input) ≤ length out
+        → length (tagPart input) ≡ tagSize
         → Verdict (differing g ad input ≡ bits (tagPart (g .payload)) ⊞ bits (tagPart input)) (recovered key nonce ad input) out (opened key nonce ad input out)
-    any-tag out b fits e = verdict key nonce ad input out (in-order out fits e) (authentic-sum b e) refl
-
-    -- The same tag adds up to zero with itself.
-    same-tag : (out : List ℕ) → Fits ad input out → tagPart input ≡ tagPart (g .payload)
-        → Verdict (differing g ad input ≡ zeros 64) (recovered key nonce ad input) out (opened key nonce ad input out)
-    same-tag out fits e =
-        subst (λ (z : List Bool). Verdict (differing g ad input ≡ z) (recovered key nonce ad input) out (opened key nonce ad input out)) none
-        (any-tag out (subst Bytes (sym whole) (tag-bytes key nonce (g .ad) (g .message))) fits (ap length whole ∙ length-tag key nonce (g .ad) (g .message)))
-      where
-        whole : tagPart input ≡ tag key nonce (g .ad) (g .message)
-        whole = e ∙ tag-part
-
-        none : bits (tagPart (g .payload)) ⊞ bits (tagPart input) ≡ zeros 64
-        none = ap₂ (λ (s t : List ℕ). bits s ⊞ bits t) tag-part whole ∙ tag-self key nonce (g .ad) (g .message)
+    unfolding recovered
+    any-tag out b legal room e =
+        verdict key nonce ad input out
+        (legal-in-order key nonce ad input out (recovered key nonce ad input) legal
+        (sym (parts input .lengths) ∙ ap₂ _+_ (sym (length-deciphered key nonce ad (ciphertextPart input))) e) room)
+        (authentic-sum b e) refl
 
 pub substitution : (key nonce ad input out : List ℕ) → Bytes input → Substitution key nonce ad input out (opened key nonce ad input out)
-substitution key nonce ad input out b = record {
-  sameTag = λ g. same-tag g ad input out;
-  anyTag = λ g. any-tag g ad input out (tagPart-bytes input b);
+substitution key nonce ad input out b g legal room = record {
+  -- The same tag adds up to zero with itself.
+  sameTag = λ e.
+      let same = e ∙ tag-part g in
+      subst (λ (z : List Bool). Verdict (differing g ad input ≡ z) (recovered key nonce ad input) out (opened key nonce ad input out))
+      (ap₂ (λ (s t : List ℕ). bits s ⊞ bits t) (tag-part g) same ∙ tag-self key nonce (g .ad) (g .message))
+      (any-tag g ad input out (tagPart-bytes input b) legal room (ap length same ∙ length-tag key nonce (g .ad) (g .message)));
+  anyTag = any-tag g ad input out (tagPart-bytes input b) legal room;
 }

@@ -8,12 +8,11 @@ use Rattle.bits.specs.Bytes.{Bytes, bits, flip}
 use Rattle.bits.specs.Strings.{_⊞_, zeros}
 use Rattle.refusals.specs.Outcome.{Outcome}
 use Rattle.payload.specs.Sizes.{tagSize}
-use Rattle.payload.specs.Payload.{ciphertextPart, tagPart}
+use Rattle.payload.specs.Payload.{tagPart}
 use Rattle.payload.specs.Laws.{flippedRegisters}
 use Rattle.payload.specs.TwoTags.{differingRegisters}
-use Rattle.grain128aead.specs.Sizes.{adLimit, messageLimit}
 use Rattle.grain128aead.specs.Calls.{recovered}
-use Rattle.grain128aead.specs.Demand2.{Makes}
+use Rattle.grain128aead.specs.Demand2.{Legal, Makes}
 use Rattle.grain128aead.specs.Demand3.{Flipped, Verdict}
 
 -- A genuine payload under a key and a nonce, and the AD and the message that make it.
@@ -23,24 +22,23 @@ pub record Genuine (key nonce : List ℕ) : Type 0 where
   pub payload : List ℕ
   pub makes : Makes key nonce ad message payload
 
--- The AD and the message are of legal sizes, and there is room for the message.
-pub record Fits (ad input out : List ℕ) : Type 0 where
-  pub adFits : length ad ≤ adLimit
-  pub messageFits : length (ciphertextPart input) ≤ messageLimit
-  pub room : length (ciphertextPart input) ≤ length out
-
 -- The registers at all positions where the strings of the genuine payload and of what is opened differ, the shorter one continued with
 -- zeros, added up.
 abbrev pub differing : {key nonce : List ℕ} → Genuine key nonce → (ad input : List ℕ) → List Bool
 differing {key} {nonce} g ad input = differingRegisters key nonce (g .ad) (g .message) ad (recovered key nonce ad input)
 
--- The genuine payload's tag put under another AD and another ciphertext is accepted exactly when these registers add up to zero; any tag, exactly
--- when they add up to the sum of the two tags.
-pub record Substitution (key nonce ad input out : List ℕ) (o : Outcome) : Type 0 where
-  pub sameTag : (g : Genuine key nonce) → Fits ad input out → tagPart input ≡ tagPart (g .payload)
-      → Verdict (differing g ad input ≡ zeros 64) (recovered key nonce ad input) out o
-  pub anyTag : (g : Genuine key nonce) → Fits ad input out → length (tagPart input) ≡ tagSize
+-- The genuine payload's tag, put under this AD and ciphertext, is accepted exactly when these registers add up to zero; any tag, exactly when
+-- they add up to the sum of the two tags.
+pub record Substituted {key nonce : List ℕ} (g : Genuine key nonce) (ad input out : List ℕ) (o : Outcome) : Type 0 where
+  pub sameTag : tagPart input ≡ tagPart (g .payload) → Verdict (differing g ad input ≡ zeros 64) (recovered key nonce ad input) out o
+  pub anyTag : length (tagPart input) ≡ tagSize
       → Verdict (differing g ad input ≡ bits (tagPart (g .payload)) ⊞ bits (tagPart input)) (recovered key nonce ad input) out o
+
+-- Whatever genuine payload it is put in place of, the AD and the message legal too, and given room for the message.
+abbrev pub Substitution : (key nonce ad input out : List ℕ) → Outcome → Type 0
+Substitution key nonce ad input out o =
+    (g : Genuine key nonce) → Legal key nonce ad (recovered key nonce ad input) → length (recovered key nonce ad input) ≤ length out
+    → Substituted g ad input out o
 
 -- The genuine payload of demand 3.
 abbrev pub genuine : {key nonce ad input : List ℕ} → Flipped key nonce ad input → Genuine key nonce

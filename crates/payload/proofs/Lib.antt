@@ -4,5 +4,5 @@ pub mod Job
 pub mod Payload
 pub mod Machine
 pub mod TwoTags
-pub mod Flips
+pub mod EqualLengths
 pub mod Examples

@@ -28,8 +28,7 @@ pub tag-bytes : (key nonce ad message : List ℕ) → Bytes (tag key nonce ad me
 unfolding tag
 tag-bytes key nonce ad message = bytes-are-bytes tagSize _
 
--- Both have 64 bits.
-pub length-tag-bits : (key nonce ad message : List ℕ) → length (bits (tag key nonce ad message)) ≡ 64
+length-tag-bits : (key nonce ad message : List ℕ) → length (bits (tag key nonce ad message)) ≡ 64
 length-tag-bits key nonce ad message = length-bits (tag key nonce ad message) ∙ ap (λ (n : ℕ). 8 * n) (length-tag key nonce ad message)
 
 -- The bits of a tag are the accumulator after the final 1.

@@ -1,11 +1,11 @@
 -- Laws of payloads: the lengths of every piece, what a job takes, the two parts of a sealed input, what the authenticated string tells, the
--- machine's laws under a key and a nonce, and what flips do to the tag.
+-- machine's laws under a key and a nonce, and the registers at flipped data positions.
 use mathlib.Core.Path.{_≡_}
 use mathlib.Core.Bool.{Bool, false}
 use mathlib.Core.List.{List, [], _∷_, _++_}
 use Prim.Native.Nat.{ℕ, _+_, _-_, _*_, _≤_, _<_}
 use lib.ListN.{length, take, drop, getD, replicate}
-use Rattle.bits.specs.Bytes.{Bytes, bits, flip}
+use Rattle.bits.specs.Bytes.{Bytes, bits}
 use Rattle.bits.specs.Bit.{_⊻_}
 use Rattle.bits.specs.Strings.{_⊞_, shift}
 use Rattle.bits.specs.Times.{inTurn}
@@ -97,10 +97,3 @@ ClosedForm =
 unfoldable pub flippedRegisters : (key nonce ad : List ℕ) → (inAd inCiphertext : List Bool) → List Bool
 flippedRegisters key nonce ad inAd inCiphertext =
     registersAt 64 (registerAt key nonce) (8 * length (codedLength (length ad))) (inAd ++ inCiphertext)
-
--- Flips in the AD and the message, one for each of their bits, flip the tag by the registers at the flipped data positions.
-abbrev pub TagFlips : Type 0
-TagFlips =
-    (key nonce ad message : List ℕ) (inAd inMessage : List Bool) → length key ≡ keySize → length nonce ≡ nonceSize
-    → length inAd ≡ 8 * length ad → length inMessage ≡ 8 * length message
-    → tag key nonce (flip ad inAd) (flip message inMessage) ≡ flip (tag key nonce ad message) (flippedRegisters key nonce ad inAd inMessage)

@@ -1,4 +1,4 @@
-// Two tags under one key and nonce, of pairs of AD and message of other lengths (document 02, C-23). Their sum is the sum of the
+// Two tags under one key and nonce, of pairs of AD and message of different lengths (document 02, C-23). Their sum is the sum of the
 // registers at the positions where the two authenticated strings differ, the shorter one continued with zeros.
 use crate::published::KEY;
 use crate::published::NONCE;
@@ -7,7 +7,7 @@ use crate::tally::Tally;
 use machine::engine::Engine;
 use preoutput::Streamed;
 
-// The longest string here, in bits.
+// The bits of the longest string here, with the zeros behind its final 1.
 const LONGEST: usize = 96;
 
 // A string's byte; past its end, zero.

@@ -1,4 +1,4 @@
--- Pairs of equal lengths, and what flips of the AD and the message do to the tag.
+-- Two pairs of equal lengths: their strings differ at data positions alone.
 -- Assumes nothing.
 use mathlib.Core.Path.{_≡_, refl, sym, ap, ap₂, _∙_}
 use mathlib.Core.Bool.{Bool, true}
@@ -8,7 +8,7 @@ use lib.Dec.{lit<}
 use lib.ListN.{length}
 use Rattle.bits.specs.Bytes.{bits, flip}
 use Rattle.bits.specs.Strings.{_⊞_, zeros}
-use Rattle.bits.proofs.Flip.{Flips, length-flip, sum-flip, flip-sum}
+use Rattle.bits.proofs.Flip.{Flips, length-flip, sum-flip}
 use Rattle.bits.proofs.Packing.{length-bits, as-many-bits}
 use Rattle.bits.proofs.Sum.{sum-append, sum-self}
 use Rattle.authenticator.specs.ClosedForm.{registersAt}
@@ -19,11 +19,8 @@ use Rattle.startup.specs.Sizes.{keySize, nonceSize}
 use Rattle.startup.specs.StartUp.{initialised}
 use Rattle.startup.proofs.Sizes.{initialised-sized}
 use Rattle.payload.specs.AuthenticatedString.{codedLength, header, authenticated}
-use Rattle.payload.specs.Payload.{tag}
-use Rattle.payload.specs.Laws.{registerAt, flippedRegisters, TagFlips}
+use Rattle.payload.specs.Laws.{registerAt, flippedRegisters}
 use Rattle.payload.specs.TwoTags.{differingRegisters, EqualLengths}
-use Rattle.payload.proofs.Payload.{length-tag}
-use Rattle.payload.proofs.TwoTags.{tag-bytes, tag-sum}
 
 -- The sum of two strings, each of a code, the bits of an AD, those of a message and a 1: nothing in the code, the sums of the others, and
 -- nothing at the 1.
@@ -53,20 +50,9 @@ equal-lengths key nonce ad message ad′ message′ k n la lm =
     wide : (i : ℕ) → length (registerAt key nonce i) ≡ 64
     wide = length-registerAt 64 (initialised key nonce) (lit< tt) (initialised-sized key nonce k n)
 
--- Flips are the case of equal lengths.
+-- Flips leave the lengths as they are.
 pub flipped-lengths : (key nonce ad message : List ℕ) (d e : List Bool) → length key ≡ keySize → length nonce ≡ nonceSize → Flips ad d → Flips message e
     → differingRegisters key nonce ad message (flip ad d) (flip message e) ≡ flippedRegisters key nonce ad d e
 flipped-lengths key nonce ad message d e k n hd he =
     equal-lengths key nonce ad message (flip ad d) (flip message e) k n (sym (length-flip ad d)) (sym (length-flip message e))
     ∙ ap₂ (flippedRegisters key nonce ad) (sum-flip ad d hd) (sum-flip message e he)
-
-pub tag-flips : TagFlips
-tag-flips key nonce ad message d e k n hd he =
-    sym (flip-sum old new (tag-bytes key nonce (flip ad d) (flip message e)) (length-tag key nonce ad message ∙ sym (length-tag key nonce (flip ad d) (flip message e))))
-    ∙ ap (flip old) (tag-sum key nonce ad message (flip ad d) (flip message e) k n ∙ flipped-lengths key nonce ad message d e k n hd he)
-  where
-    old : List ℕ
-    old = tag key nonce ad message
-
-    new : List ℕ
-    new = tag key nonce (flip ad d) (flip message e)
