@@ -1,3 +1,4 @@
+pub mod BlankKey
 pub mod Loaded
 pub mod Sizes
 pub mod Clocks

@@ -1,4 +1,5 @@
 pub mod Sizes
+pub mod BlankKey
 pub mod StartUp
 pub mod Laws
 pub mod Filling

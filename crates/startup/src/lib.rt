@@ -1,5 +1,6 @@
 // Start-up of the first edition: the loading, 256 clocks with the pre-output fed back, 128 clocks with the key.
 mod filling;
+pub mod key;
 pub mod loading;
 
 ghost use mathlib.Core.Path.{_≡_};
