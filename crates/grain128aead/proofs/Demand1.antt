@@ -9,16 +9,16 @@ use Rattle.refusals.specs.Outcome.{judged}
 use Rattle.refusals.specs.Demand1.{Clear}
 use Rattle.refusals.proofs.Demand1 as anyCall
 use Rattle.refusals.proofs.Rows.{no-other}
-use Rattle.grain128aead.specs.Order.{sizeRefusals, order}
+use Rattle.grain128aead.specs.Order.{beforeTag, order}
 use Rattle.grain128aead.specs.Calls.{table, rows}
 use Rattle.grain128aead.specs.Demand1.{Numbered, Tabled, Demand1}
 
 pub numbered : Numbered
-unfolding order sizeRefusals
+unfolding order beforeTag
 numbered = refl
 
 pub tabled : Tabled
-unfolding order sizeRefusals table
+unfolding order beforeTag table
 tabled key nonce ad tooLong tooShort noRoom wrongTag = refl
 
 module _ (key nonce ad : List ℕ) (tooLong tooShort noRoom wrongTag : Bool) where

@@ -21,12 +21,12 @@ use Rattle.payload.specs.Sizes.{tagSize}
 use Rattle.payload.specs.Payload.{ciphertext, deciphered, tag, payload, ciphertextPart, tagPart}
 use Rattle.payload.proofs.Payload.{ciphertextPart-joined, tagPart-joined, parts, length-ciphertextPart, ciphertextPart-bytes, length-deciphered, deciphered-bytes, length-tag, length-payload, deciphered-ciphertext, ciphertext-deciphered}
 use Rattle.grain128aead.specs.Sizes.{adLimit, messageLimit}
-use Rattle.grain128aead.specs.Order.{sizeRefusals}
+use Rattle.grain128aead.specs.Order.{beforeTag}
 use Rattle.grain128aead.specs.Calls.{table, sealingRow, sealed, recovered, openingRow, opened, tagDiffers}
 use Rattle.grain128aead.specs.Demand1.{Demand1}
 use Rattle.grain128aead.specs.Demand2.{Legal, Makes, Sealing, Demand2}
 use Rattle.grain128aead.proofs.Demand1.{demand1}
-use Rattle.grain128aead.proofs.Settled.{sizesOf, opened-settled}
+use Rattle.grain128aead.proofs.Settled.{judgement, opened-settled}
 use Rattle.grain128aead.proofs.Rows.{rows-clear, clear-rows, Authentic, tag-authentic, authentic-tag}
 
 module _ (key nonce ad message out : List ℕ) where
@@ -79,8 +79,8 @@ module _ (key nonce ad input out : List ℕ) where
     room = omega arith;
   }
 
-  passed : InOrder → sizesOf key nonce ad (ltb (messageLimit + tagSize) (length input)) (ltb (length input) tagSize) (ltb (length out) (length input - tagSize)) ≡ Passed
-  unfolding check sizeRefusals table among
+  passed : InOrder → judgement key nonce ad (ltb (messageLimit + tagSize) (length input)) (ltb (length input) tagSize) (ltb (length out) (length input - tagSize)) ≡ Passed
+  unfolding check beforeTag table among
   passed o =
       simp (
         eq-eqb (length key) keySize (o .keySized),

@@ -36,11 +36,11 @@ use Rattle.grain128aead.specs.Order.{order}
 use Rattle.grain128aead.specs.Calls.{rows, sealed, recovered, tagDiffers, opened}
 use Rattle.grain128aead.proofs.Demand1.{none-at-all}
 use Rattle.grain128aead.proofs.Rows.{NoneApplies, rows-clear, tag-authentic, authentic-tag}
-use Rattle.grain128aead.proofs.Settled.{sizesOf, check-rows, sealed-settled, opened-settled}
+use Rattle.grain128aead.proofs.Settled.{judgement, check-rows, sealed-settled, opened-settled}
 
--- A check that passed tells every size.
-pub sizes-clear : (key nonce ad : List ℕ) (tooLong tooShort noRoom : Bool) → sizesOf key nonce ad tooLong tooShort noRoom ≡ Passed → NoneApplies key nonce ad tooLong tooShort noRoom false
-sizes-clear key nonce ad tooLong tooShort noRoom e =
+-- Where the rows before the tag's have passed, none of them applies.
+pub passed-clear : (key nonce ad : List ℕ) (tooLong tooShort noRoom : Bool) → judgement key nonce ad tooLong tooShort noRoom ≡ Passed → NoneApplies key nonce ad tooLong tooShort noRoom false
+passed-clear key nonce ad tooLong tooShort noRoom e =
     rows-clear key nonce ad tooLong tooShort noRoom false
     (none-at-all key nonce ad tooLong tooShort noRoom false
     (decides (rows key nonce ad tooLong tooShort noRoom false) order .passes .0
@@ -99,21 +99,21 @@ module _ (received : List ℕ) (computed : List Bool) (r n : ℕ) (eight : lengt
 
 -- ---- sealing
 
--- What the check of the sizes says when sealing.
-abbrev pub sealingSizes : (key nonce ad message lent : List ℕ) → Check
-sealingSizes key nonce ad message lent = sizesOf key nonce ad (ltb messageLimit (length message)) false (ltb (length lent) (length message + tagSize))
+-- What the rows before the tag's come to when sealing.
+abbrev pub sealingJudgement : (key nonce ad message lent : List ℕ) → Check
+sealingJudgement key nonce ad message lent = judgement key nonce ad (ltb messageLimit (length message)) false (ltb (length lent) (length message + tagSize))
 
 pub record SealChecked (key nonce ad message lent : List ℕ) (c : Check) : Type 0 where
-  pub checked : c ≡ sealingSizes key nonce ad message lent
+  pub checked : c ≡ sealingJudgement key nonce ad message lent
 
-module _ {key nonce ad message lent : List ℕ} {c : Check} (sizes : SealChecked key nonce ad message lent c) where
+module _ {key nonce ad message lent : List ℕ} {c : Check} (checks : SealChecked key nonce ad message lent c) where
   pub seal-failed : {r : Refusal} → c ≡ Failed r → outcome (Refused r) lent ≡ sealed key nonce ad message lent
   unfolding settled
-  seal-failed e = sym (sealed-settled key nonce ad message lent ∙ ap (λ (d : Check). settled d (payload key nonce ad message) lent) (sym (sizes .checked) ∙ e))
+  seal-failed e = sym (sealed-settled key nonce ad message lent ∙ ap (λ (d : Check). settled d (payload key nonce ad message) lent) (sym (checks .checked) ∙ e))
 
   module _ (e : c ≡ Passed) where
     pub seal-clear : NoneApplies key nonce ad (ltb messageLimit (length message)) false (ltb (length lent) (length message + tagSize)) false
-    seal-clear = sizes-clear key nonce ad _ _ _ (sym (sizes .checked) ∙ e)
+    seal-clear = passed-clear key nonce ad _ _ _ (sym (checks .checked) ∙ e)
 
     pub seal-room : length message + tagSize ≤ length lent
     seal-room = ltb-false (length lent) (length message + tagSize) (seal-clear .room)
@@ -126,19 +126,19 @@ module _ {key nonce ad message lent : List ℕ} {c : Check} (sizes : SealChecked
         sealed-output key nonce ad message lent out written seal-room
         (whole .written ∙ ap (λ (st : State). bytes (length message) (crypt true st (bits message)) ++ drop (length message) lent) began)
         (stored ∙ ap (λ (s : List ℕ). paste out (length message) s 8) (tag-word key nonce ad message (stateOf done) t (whole .engine ∙ ap (λ (st : State). run st (bits message)) began) tagged))
-        ∙ sym (sealed-settled key nonce ad message lent ∙ ap (λ (d : Check). settled d (payload key nonce ad message) lent) (sym (sizes .checked) ∙ e))
+        ∙ sym (sealed-settled key nonce ad message lent ∙ ap (λ (d : Check). settled d (payload key nonce ad message) lent) (sym (checks .checked) ∙ e))
       where
         whole : CryptsAll true (stateOf b) message lent out done
         whole = rw (take-all (length lent) message (omega (arith, seal-room))) at crypted
 
 -- ---- opening
 
--- What the check of the sizes says when opening.
-abbrev pub openingSizes : (key nonce ad input lent : List ℕ) → Check
-openingSizes key nonce ad input lent = sizesOf key nonce ad (ltb (messageLimit + tagSize) (length input)) (ltb (length input) tagSize) (ltb (length lent) (length input - tagSize))
+-- What the rows before the tag's come to when opening.
+abbrev pub openingJudgement : (key nonce ad input lent : List ℕ) → Check
+openingJudgement key nonce ad input lent = judgement key nonce ad (ltb (messageLimit + tagSize) (length input)) (ltb (length input) tagSize) (ltb (length lent) (length input - tagSize))
 
 pub record OpenChecked (key nonce ad input lent : List ℕ) (c : Check) : Type 0 where
-  pub checked : c ≡ openingSizes key nonce ad input lent
+  pub checked : c ≡ openingJudgement key nonce ad input lent
 
 -- The two words that opening compares: `r`, of the computed tag, and `n`, of the received one.
 pub record Compared (key nonce ad input : List ℕ) (b done : Engine) (r n : ℕ) : Type 0 where
@@ -149,15 +149,15 @@ pub record Compared (key nonce ad input : List ℕ) (b done : Engine) (r n : ℕ
   pub small : r < 2 ^ 64
   pub spelled : n ≡ value (bits (tagPart input)) % 2 ^ 64
 
-module _ {key nonce ad input lent : List ℕ} {c : Check} (sizes : OpenChecked key nonce ad input lent c) where
+module _ {key nonce ad input lent : List ℕ} {c : Check} (checks : OpenChecked key nonce ad input lent c) where
   pub open-failed : {r : Refusal} → c ≡ Failed r → outcome (Refused r) lent ≡ opened key nonce ad input lent
   unfolding settled
   open-failed e =
-      sym (opened-settled key nonce ad input lent ∙ ap (λ (d : Check). settled (after d TagDiffers (tagDiffers key nonce ad input)) (recovered key nonce ad input) lent) (sym (sizes .checked) ∙ e))
+      sym (opened-settled key nonce ad input lent ∙ ap (λ (d : Check). settled (after d TagDiffers (tagDiffers key nonce ad input)) (recovered key nonce ad input) lent) (sym (checks .checked) ∙ e))
 
   module _ (e : c ≡ Passed) where
     pub open-clear : NoneApplies key nonce ad (ltb (messageLimit + tagSize) (length input)) (ltb (length input) tagSize) (ltb (length lent) (length input - tagSize)) false
-    open-clear = sizes-clear key nonce ad _ _ _ (sym (sizes .checked) ∙ e)
+    open-clear = passed-clear key nonce ad _ _ _ (sym (checks .checked) ∙ e)
 
     pub open-reaches : tagSize ≤ length input
     open-reaches = ltb-false (length input) tagSize (open-clear .reaches)
@@ -168,7 +168,7 @@ module _ {key nonce ad input lent : List ℕ} {c : Check} (sizes : OpenChecked k
     by-tag : (differs : Bool) → tagDiffers key nonce ad input ≡ differs → opened key nonce ad input lent ≡ cond differs (refused TagDiffers lent) (success (recovered key nonce ad input) lent)
     by-tag differs h =
         opened-settled key nonce ad input lent
-        ∙ ap₂ (λ (d : Check) (b : Bool). settled (after d TagDiffers b) (recovered key nonce ad input) lent) (sym (sizes .checked) ∙ e) h
+        ∙ ap₂ (λ (d : Check) (b : Bool). settled (after d TagDiffers b) (recovered key nonce ad input) lent) (sym (checks .checked) ∙ e) h
         ∙ settled-last TagDiffers differs (recovered key nonce ad input) lent
 
     -- The computed tag, from the machine after the message that the input hides.

@@ -1,4 +1,4 @@
--- The calls by the rows that sizes decide, with the tag's row behind them.
+-- The calls by the rows before the tag's, with the tag's row behind them.
 -- Assumes nothing.
 use mathlib.Core.Path.{_≡_, ap, _∙_}
 use mathlib.Core.Bool.{Bool, false}
@@ -14,24 +14,24 @@ use Rattle.refusals.proofs.LastRow.{after, after-false, check-last}
 use Rattle.payload.specs.Sizes.{tagSize}
 use Rattle.payload.specs.Payload.{payload}
 use Rattle.grain128aead.specs.Sizes.{messageLimit}
-use Rattle.grain128aead.specs.Order.{sizeRefusals, order}
+use Rattle.grain128aead.specs.Order.{beforeTag, order}
 use Rattle.grain128aead.specs.Calls.{table, rows, sealed, recovered, tagDiffers, opened}
 
--- What the sizes come to, whatever the tag.
-abbrev pub sizesOf : (key nonce ad : List ℕ) → (tooLong tooShort noRoom : Bool) → Check
-sizesOf key nonce ad tooLong tooShort noRoom = check sizeRefusals (rows key nonce ad tooLong tooShort noRoom false)
+-- What the rows before the tag's come to, whatever the tag.
+abbrev pub judgement : (key nonce ad : List ℕ) → (tooLong tooShort noRoom : Bool) → Check
+judgement key nonce ad tooLong tooShort noRoom = check beforeTag (rows key nonce ad tooLong tooShort noRoom false)
 
-pub check-rows : (key nonce ad : List ℕ) (tooLong tooShort noRoom differs : Bool) → check order (rows key nonce ad tooLong tooShort noRoom differs) ≡ after (sizesOf key nonce ad tooLong tooShort noRoom) TagDiffers differs
-unfolding order table among check sizeRefusals
-check-rows key nonce ad tooLong tooShort noRoom differs = check-last sizeRefusals TagDiffers (rows key nonce ad tooLong tooShort noRoom differs)
+pub check-rows : (key nonce ad : List ℕ) (tooLong tooShort noRoom differs : Bool) → check order (rows key nonce ad tooLong tooShort noRoom differs) ≡ after (judgement key nonce ad tooLong tooShort noRoom) TagDiffers differs
+unfolding order table among check beforeTag
+check-rows key nonce ad tooLong tooShort noRoom differs = check-last beforeTag TagDiffers (rows key nonce ad tooLong tooShort noRoom differs)
 
 pub sealed-settled : (key nonce ad message out : List ℕ)
-    → sealed key nonce ad message out ≡ settled (sizesOf key nonce ad (ltb messageLimit (length message)) false (ltb (length out) (length message + tagSize))) (payload key nonce ad message) out
+    → sealed key nonce ad message out ≡ settled (judgement key nonce ad (ltb messageLimit (length message)) false (ltb (length out) (length message + tagSize))) (payload key nonce ad message) out
 unfolding sealed judged
 sealed-settled key nonce ad message out = ap (λ (c : Check). settled c (payload key nonce ad message) out) (check-rows key nonce ad _ _ _ false ∙ after-false _ TagDiffers)
 
 pub opened-settled : (key nonce ad input out : List ℕ)
     → opened key nonce ad input out
-    ≡ settled (after (sizesOf key nonce ad (ltb (messageLimit + tagSize) (length input)) (ltb (length input) tagSize) (ltb (length out) (length input - tagSize))) TagDiffers (tagDiffers key nonce ad input)) (recovered key nonce ad input) out
+    ≡ settled (after (judgement key nonce ad (ltb (messageLimit + tagSize) (length input)) (ltb (length input) tagSize) (ltb (length out) (length input - tagSize))) TagDiffers (tagDiffers key nonce ad input)) (recovered key nonce ad input) out
 unfolding opened judged
 opened-settled key nonce ad input out = ap (λ (c : Check). settled c (recovered key nonce ad input) out) (check-rows key nonce ad _ _ _ (tagDiffers key nonce ad input))

@@ -15,17 +15,17 @@ use Rattle.payload.specs.Sizes.{tagSize}
 use Rattle.grain128aead.specs.Sizes.{messageLimit}
 use Rattle.grain128aead.specs.Calls.{recovered, tagDiffers}
 use Rattle.grain128aead.specs.Demand1.{ShortInput}
-use Rattle.grain128aead.proofs.Entry.{sizes-clear}
-use Rattle.grain128aead.proofs.Settled.{sizesOf, check-rows, opened-settled}
+use Rattle.grain128aead.proofs.Entry.{passed-clear}
+use Rattle.grain128aead.proofs.Settled.{judgement, check-rows, opened-settled}
 
 pub short-input : ShortInput
 unfolding judged
 short-input key nonce ad input out h wrongTag message =
     opened-settled key nonce ad input out
     ∙ ap (λ (c : Check). settled (after c TagDiffers (tagDiffers key nonce ad input)) (recovered key nonce ad input) out) sizes
-    ∙ settled-earlier (sizesOf key nonce ad false true false) TagDiffers (tagDiffers key nonce ad input) wrongTag (recovered key nonce ad input) message out
-    (λ e. true≢false (sizes-clear key nonce ad false true false e .reaches))
+    ∙ settled-earlier (judgement key nonce ad false true false) TagDiffers (tagDiffers key nonce ad input) wrongTag (recovered key nonce ad input) message out
+    (λ e. true≢false (passed-clear key nonce ad false true false e .reaches))
     ∙ sym (ap (λ (c : Check). settled c message out) (check-rows key nonce ad false true false wrongTag))
   where
-    sizes : sizesOf key nonce ad (ltb (messageLimit + tagSize) (length input)) (ltb (length input) tagSize) (ltb (length out) (length input - tagSize)) ≡ sizesOf key nonce ad false true false
+    sizes : judgement key nonce ad (ltb (messageLimit + tagSize) (length input)) (ltb (length input) tagSize) (ltb (length out) (length input - tagSize)) ≡ judgement key nonce ad false true false
     sizes = simp (le-ltb (messageLimit + tagSize) (length input) (omega arith), lt-ltb (length input) tagSize h, le-ltb (length out) (length input - tagSize) (omega arith))

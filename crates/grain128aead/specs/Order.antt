@@ -3,10 +3,10 @@ use mathlib.Core.List.{List, [], _∷_, _++_}
 use Rattle.refusals.specs.declared.Refusal.{Refusal}
 use Rattle.refusals.specs.declared.Refusal.the-variants.{KeySize, NonceSize, AdTooLong, MessageTooLong, SealedTooShort, OutputTooShort, TagDiffers}
 
--- The rows that sizes decide, in the order in which they are tried.
-unfoldable pub sizeRefusals : List Refusal
-sizeRefusals = KeySize ∷ NonceSize ∷ AdTooLong ∷ MessageTooLong ∷ SealedTooShort ∷ OutputTooShort ∷ []
+-- The rows before the tag's, in the order in which they are tried.
+unfoldable pub beforeTag : List Refusal
+beforeTag = KeySize ∷ NonceSize ∷ AdTooLong ∷ MessageTooLong ∷ SealedTooShort ∷ OutputTooShort ∷ []
 
 -- The order of all rows: the tag comes last.
 unfoldable pub order : List Refusal
-order = sizeRefusals ++ (TagDiffers ∷ [])
+order = beforeTag ++ (TagDiffers ∷ [])

@@ -1,8 +1,8 @@
-// The rows that sizes decide, in document 01's order.
+// The rows before the tag's, in their order.
 ghost use mathlib.Core.Path.{_≡_};
 ghost use mathlib.Core.Bool.{false};
 ghost use Rattle.refusals.specs.Refusals as refusals;
-ghost use Rattle.grain128aead.specs.Order.{sizeRefusals};
+ghost use Rattle.grain128aead.specs.Order.{beforeTag};
 ghost use Rattle.grain128aead.specs.Calls.{rows};
 use crate::limits::AD_LIMIT;
 use refusals::Check;
@@ -17,7 +17,7 @@ pub fn judge(
     too_short: bool,
     no_room: bool,
 ) -> Check
-    ensures { λ r. ⌜ r ≡ refusals.check sizeRefusals (rows (now (key .entry)) (now (nonce .entry)) (now (ad .entry)) «too_long» «too_short» «no_room» false) ⌝ }
+    ensures { λ r. ⌜ r ≡ refusals.check beforeTag (rows (now (key .entry)) (now (nonce .entry)) (now (ad .entry)) «too_long» «too_short» «no_room» false) ⌝ }
 {
     if key.len() != 16 {
         return Check::Failed(Refusal::KeySize);

@@ -1,6 +1,6 @@
 // Grain-128AEAD, first edition: sealing and opening of whole byte strings.
+mod checks;
 pub mod limits;
-mod sizes;
 mod tag;
 
 ghost use mathlib.Core.Path.{_≡_};
@@ -43,7 +43,7 @@ pub fn seal(key: &[u8], nonce: &[u8], ad: &[u8], message: &[u8], out: &mut [u8])
     let n = message.len();
     let too_long = MESSAGE_LIMIT < n;
     let no_room = out.len() < n + 8;
-    match sizes::judge(key, nonce, ad, too_long, false, no_room) {
+    match checks::judge(key, nonce, ad, too_long, false, no_room) {
         Check::Failed(r) => Answer::Refused(r),
         Check::Passed => {
             let begun = begin(key, nonce, ad);
@@ -66,7 +66,7 @@ pub fn open(key: &[u8], nonce: &[u8], ad: &[u8], input: &[u8], out: &mut [u8]) -
     let too_long = MESSAGE_LIMIT + 8 < n;
     let too_short = n < 8;
     let no_room = out.len() + 8 < n;
-    match sizes::judge(key, nonce, ad, too_long, too_short, no_room) {
+    match checks::judge(key, nonce, ad, too_long, too_short, no_room) {
         Check::Failed(r) => Answer::Refused(r),
         Check::Passed => {
             let ciphertext = payload::parts::ciphertext_part(input);

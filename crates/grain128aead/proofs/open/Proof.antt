@@ -22,8 +22,8 @@ use Rattle.grain128aead.specs.Substitution.{Substitution}
 use Rattle.grain128aead.proofs.Demand2.{demand1-opening, demand2}
 use Rattle.grain128aead.proofs.Demand3.{demand3}
 use Rattle.grain128aead.proofs.Substitution.{substitution}
-use Rattle.grain128aead.proofs.Entry.{openingSizes, OpenChecked, Compared, open-failed, open-clear, open-reaches, open-passed, open-differs}
-use Rattle.grain128aead.proofs.Settled.{sizesOf}
+use Rattle.grain128aead.proofs.Entry.{openingJudgement, OpenChecked, Compared, open-failed, open-clear, open-reaches, open-passed, open-differs}
+use Rattle.grain128aead.proofs.Settled.{judgement}
 use Rattle.grain128aead.proofs.open.Statement.{statement}
 use Rattle.grain128aead.proofs.open.Tie as tie
 
@@ -49,8 +49,8 @@ called key nonce ad input out b e = (
 no-room : (a n : ℕ) → ltb (a + 8) n ≡ ltb a (n - 8)
 no-room a n = elim (decLt (a + 8) n) [ yes h ↦ lt-ltb (a + 8) n h ∙ sym (lt-ltb a (n - 8) (omega arith)) | no h ↦ le-ltb (a + 8) n (omega arith) ∙ sym (le-ltb a (n - 8) (omega arith)) ]
 
-sized : (key nonce ad input lent : List ℕ) {c : Check} → c ≡ sizesOf key nonce ad (ltb (messageLimit + tagSize) (length input)) (ltb (length input) tagSize) (ltb (length lent + 8) (length input)) → c ≡ openingSizes key nonce ad input lent
-sized key nonce ad input lent e = e ∙ ap (sizesOf key nonce ad (ltb (messageLimit + tagSize) (length input)) (ltb (length input) tagSize)) (no-room (length lent) (length input))
+sized : (key nonce ad input lent : List ℕ) {c : Check} → c ≡ judgement key nonce ad (ltb (messageLimit + tagSize) (length input)) (ltb (length input) tagSize) (ltb (length lent + 8) (length input)) → c ≡ openingJudgement key nonce ad input lent
+sized key nonce ad input lent e = e ∙ ap (judgement key nonce ad (ltb (messageLimit + tagSize) (length input)) (ltb (length input) tagSize)) (no-room (length lent) (length input))
 
 checked : (j : tie.After-judge) →
     let a = j .before .before .before .before .before .before .args in
