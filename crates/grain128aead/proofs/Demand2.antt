@@ -1,6 +1,7 @@
 -- Demands 1 and 2: the rows decide, and opening accepts exactly what some message makes.
 -- Assumes nothing.
 use mathlib.Core.Path.{_≡_, refl, sym, ap, ap₂, _∙_}
+use mathlib.Core.Logic.{_≢_}
 use mathlib.Core.Bool.{Bool, cond}
 use mathlib.Core.List.{List, _++_}
 use Prim.Native.Nat.{ℕ, _+_, _-_, _≤_}
@@ -17,6 +18,8 @@ use Rattle.refusals.specs.Outcome.{Outcome, settled, refused, success}
 use Rattle.refusals.specs.Demand1.{Accepts}
 use Rattle.refusals.proofs.LastRow.{after, settled-last}
 use Rattle.startup.specs.Sizes.{keySize, nonceSize}
+use Rattle.startup.specs.BlankKey.{blankKey}
+use Rattle.startup.proofs.BlankKey.{unequal-not-blank}
 use Rattle.payload.specs.Sizes.{tagSize}
 use Rattle.payload.specs.Payload.{ciphertext, deciphered, tag, payload, ciphertextPart, tagPart}
 use Rattle.payload.proofs.Payload.{ciphertextPart-joined, tagPart-joined, parts, length-ciphertextPart, ciphertextPart-bytes, length-deciphered, deciphered-bytes, length-tag, length-payload, deciphered-ciphertext, ciphertext-deciphered}
@@ -38,6 +41,7 @@ module _ (key nonce ad message out : List ℕ) where
   accepted legal room = demand1-sealing .accepts .1 (clear-rows key nonce ad _ _ _ _ record {
     keySized = legal .keySized;
     nonceSized = legal .nonceSized;
+    keyNotBlank = legal .keyNotBlank;
     adFits = legal .adFits;
     fits = le-ltb messageLimit (length message) (legal .messageFits);
     reaches = refl;
@@ -48,7 +52,7 @@ module _ (key nonce ad message out : List ℕ) where
   legal : Accepts (sealed key nonce ad message out) → Legal key nonce ad message × (length message + tagSize ≤ length out)
   legal a =
       let c = rows-clear key nonce ad _ _ _ _ (demand1-sealing .accepts .0 a) in (
-        record { keySized = c .keySized; nonceSized = c .nonceSized; adFits = c .adFits; messageFits = ltb-false messageLimit (length message) (c .fits) },
+        record { keySized = c .keySized; nonceSized = c .nonceSized; keyNotBlank = c .keyNotBlank; adFits = c .adFits; messageFits = ltb-false messageLimit (length message) (c .fits) },
         ltb-false (length out) (length message + tagSize) (c .room),
       )
 
@@ -60,10 +64,11 @@ module _ (key nonce ad input out : List ℕ) where
   unfolding opened
   demand1-opening = demand1 key nonce ad _ _ _ _ (recovered key nonce ad input) out
 
-  -- The sizes are in order.
+  -- The key is not blank, and the sizes are in order.
   pub record InOrder : Type 0 where
     pub keySized : length key ≡ keySize
     pub nonceSized : length nonce ≡ nonceSize
+    pub keyNotBlank : key ≢ blankKey
     pub adFits : length ad ≤ adLimit
     pub inputFits : length input ≤ messageLimit + tagSize
     pub reaches : tagSize ≤ length input
@@ -73,6 +78,7 @@ module _ (key nonce ad input out : List ℕ) where
   legal-in-order m l e room = record {
     keySized = l .keySized;
     nonceSized = l .nonceSized;
+    keyNotBlank = l .keyNotBlank;
     adFits = l .adFits;
     inputFits = omega (arith, l .messageFits);
     reaches = omega arith;
@@ -85,13 +91,14 @@ module _ (key nonce ad input out : List ℕ) where
       simp (
         eq-eqb (length key) keySize (o .keySized),
         eq-eqb (length nonce) nonceSize (o .nonceSized),
+        unequal-not-blank key (o .keyNotBlank),
         le-ltb adLimit (length ad) (o .adFits),
         le-ltb (messageLimit + tagSize) (length input) (o .inputFits),
         le-ltb (length input) tagSize (o .reaches),
         le-ltb (length out) (length input - tagSize) (o .room),
       )
 
-  -- With the sizes in order only row 7 is left.
+  -- With these in order only row 7 is left.
   pub opening-tag : InOrder → opened key nonce ad input out ≡ cond (tagDiffers key nonce ad input) (refused TagDiffers out) (success (recovered key nonce ad input) out)
   opening-tag o =
       opened-settled key nonce ad input out
@@ -104,6 +111,7 @@ module _ (key nonce ad input out : List ℕ) where
         record {
           keySized = c .keySized;
           nonceSized = c .nonceSized;
+          keyNotBlank = c .keyNotBlank;
           adFits = c .adFits;
           inputFits = ltb-false (messageLimit + tagSize) (length input) (c .fits);
           reaches = ltb-false (length input) tagSize (c .reaches);
@@ -112,7 +120,7 @@ module _ (key nonce ad input out : List ℕ) where
         tag-authentic key nonce ad input (c .authentic),
       )
 
-  -- An authentic input of the right sizes is made by the message that it hides.
+  -- An authentic input, all else in order, is made by the message that it hides.
   authentic-makes : InOrder → Bytes input → Authentic key nonce ad input → Makes key nonce ad (recovered key nonce ad input) input
   unfolding recovered payload
   authentic-makes o b authentic = record {
@@ -120,6 +128,7 @@ module _ (key nonce ad input out : List ℕ) where
     legal = record {
       keySized = o .keySized;
       nonceSized = o .nonceSized;
+      keyNotBlank = o .keyNotBlank;
       adFits = o .adFits;
       messageFits = omega (arith, length-deciphered key nonce ad (ciphertextPart input), length-ciphertextPart input (o .reaches), o .inputFits);
     };

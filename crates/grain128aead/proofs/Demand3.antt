@@ -114,7 +114,7 @@ module _ {key nonce ad input : List ℕ} (f : Flipped key nonce ad input) where
   in-order : (out : List ℕ) → length oldMessage ≤ length out → InOrder key nonce ad input out
   in-order out room =
       legal-in-order key nonce ad input out oldMessage
-      record { keySized = legal .keySized; nonceSized = legal .nonceSized; adFits = subst (λ (n : ℕ). n ≤ adLimit) (sym length-ad) (legal .adFits); messageFits = legal .messageFits }
+      record { keySized = legal .keySized; nonceSized = legal .nonceSized; keyNotBlank = legal .keyNotBlank; adFits = subst (λ (n : ℕ). n ≤ adLimit) (sym length-ad) (legal .adFits); messageFits = legal .messageFits }
       (ap length input-parts ∙ length-append c′ t′ ∙ ap₂ _+_ length-c′ length-t′)
       room
 

@@ -8,3 +8,4 @@ pub mod Substitution
 pub mod Demand3
 pub mod Entry
 pub mod ShortInput
+pub mod UnderBlankKey

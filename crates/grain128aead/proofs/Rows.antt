@@ -1,6 +1,7 @@
 -- What it means that no row of a call applies.
 -- Assumes nothing.
 use mathlib.Core.Path.{_≡_, ap, _∙_}
+use mathlib.Core.Logic.{_≢_}
 use mathlib.Core.Bool.{Bool, false, not}
 use mathlib.Core.List.{List}
 use Prim.Native.Nat.{ℕ, _≤_}
@@ -10,10 +11,12 @@ use lib.ListN.{length}
 use Rattle.bits.specs.Bytes.{same}
 use Rattle.bits.proofs.Packing.{same-equal, equal-same}
 use Rattle.refusals.specs.declared.Refusal.{Refusal}
-use Rattle.refusals.specs.declared.Refusal.the-variants.{KeySize, NonceSize, AdTooLong, MessageTooLong, SealedTooShort, OutputTooShort, TagDiffers}
+use Rattle.refusals.specs.declared.Refusal.the-variants.{KeySize, NonceSize, AdTooLong, MessageTooLong, SealedTooShort, OutputTooShort, TagDiffers, BlankKey}
 use Rattle.refusals.specs.Refusals.{among}
 use Rattle.refusals.proofs.Rows.{quiet-none, quiet-row}
 use Rattle.startup.specs.Sizes.{keySize, nonceSize}
+use Rattle.startup.specs.BlankKey.{blankKey, isBlank}
+use Rattle.startup.proofs.BlankKey.{not-blank, unequal-not-blank}
 use Rattle.payload.specs.Payload.{tag, tagPart}
 use Rattle.grain128aead.specs.Sizes.{adLimit}
 use Rattle.grain128aead.specs.Calls.{table, rows, recovered, tagDiffers}
@@ -21,6 +24,7 @@ use Rattle.grain128aead.specs.Calls.{table, rows, recovered, tagDiffers}
 pub record NoneApplies (key nonce ad : List ℕ) (tooLong tooShort noRoom wrongTag : Bool) : Type 0 where
   pub keySized : length key ≡ keySize
   pub nonceSized : length nonce ≡ nonceSize
+  pub keyNotBlank : key ≢ blankKey
   pub adFits : length ad ≤ adLimit
   pub fits : tooLong ≡ false
   pub reaches : tooShort ≡ false
@@ -33,6 +37,7 @@ module _ (key nonce ad : List ℕ) (tooLong tooShort noRoom wrongTag : Bool) whe
   rows-clear none = record {
     keySized = eqb-true (length key) keySize (not-false (eqb (length key) keySize) (none KeySize));
     nonceSized = eqb-true (length nonce) nonceSize (not-false (eqb (length nonce) nonceSize) (none NonceSize));
+    keyNotBlank = not-blank key (none BlankKey);
     adFits = ltb-false adLimit (length ad) (none AdTooLong);
     fits = none MessageTooLong;
     reaches = none SealedTooShort;
@@ -45,8 +50,9 @@ module _ (key nonce ad : List ℕ) (tooLong tooShort noRoom wrongTag : Bool) whe
   clear-rows clear =
       quiet-row _ _ (ap not (eq-eqb (length key) keySize (clear .keySized)))
       (quiet-row _ _ (ap not (eq-eqb (length nonce) nonceSize (clear .nonceSized)))
+      (quiet-row _ _ (unequal-not-blank key (clear .keyNotBlank))
       (quiet-row _ _ (le-ltb adLimit (length ad) (clear .adFits))
-      (quiet-row _ _ (clear .fits) (quiet-row _ _ (clear .reaches) (quiet-row _ _ (clear .room) (quiet-row _ _ (clear .authentic) quiet-none))))))
+      (quiet-row _ _ (clear .fits) (quiet-row _ _ (clear .reaches) (quiet-row _ _ (clear .room) (quiet-row _ _ (clear .authentic) quiet-none)))))))
 
 -- The tag part is the tag of the message that the input would have.
 abbrev pub Authentic : (key nonce ad input : List ℕ) → Type 0

@@ -21,7 +21,7 @@ use Rattle.grain128aead.specs.Substitution.{Genuine, differing, Substitu
 use Rattle.grain128aead.proofs.Rows.{Authentic, tag-authentic, authentic-tag}
 use Rattle.grain128aead.proofs.Demand2.{InOrder, legal-in-order, opening-tag, opening-in-order}
 
--- With the sizes in order, opening goes by whatever holds exactly when the tag is the recomputed one.
+-- With all else in order, opening goes by whatever holds exactly when the tag is the recomputed one.
 module _ (key nonce ad input out : List ℕ) (o : InOrder key nonce ad input out)
     {agrees : Type 0} (same : Authentic key nonce ad input ↔ agrees) {message : List ℕ} (hidden : recovered key nonce ad input ≡ message) where
   by-tag : (differs : Bool) → tagDiffers key nonce ad input ≡ differs → opened key nonce ad input out ≡ cond differs (refused TagDiffers out) (success message out)

@@ -1,5 +1,5 @@
 -- Sealing and opening: from key, nonce, AD, message or sealed input and the lent output, byte strings of any length, to the answer and
--- the output afterwards (document 01, "When the box says no").
+-- the output afterwards (document 01, "When the box says no"; document 02, C-18).
 use mathlib.Core.Bool.{Bool, false, not}
 use mathlib.Core.List.{List, [], _∷_}
 use Prim.Native.Nat.{ℕ, _+_, _-_}
@@ -7,20 +7,22 @@ use lib.Dec.{eqb, ltb}
 use lib.ListN.{length}
 use Rattle.bits.specs.Bytes.{same}
 use Rattle.refusals.specs.declared.Refusal.{Refusal}
-use Rattle.refusals.specs.declared.Refusal.the-variants.{KeySize, NonceSize, AdTooLong, MessageTooLong, SealedTooShort, OutputTooShort, TagDiffers}
+use Rattle.refusals.specs.declared.Refusal.the-variants.{KeySize, NonceSize, AdTooLong, MessageTooLong, SealedTooShort, OutputTooShort, TagDiffers, BlankKey}
 use Rattle.refusals.specs.Refusals.{Row, _when_, among}
 use Rattle.refusals.specs.Outcome.{Outcome, judged}
 use Rattle.startup.specs.Sizes.{keySize, nonceSize}
+use Rattle.startup.specs.BlankKey.{isBlank}
 use Rattle.payload.specs.Sizes.{tagSize}
 use Rattle.payload.specs.Payload.{payload, deciphered, tag, ciphertextPart, tagPart}
 use Rattle.grain128aead.specs.Sizes.{adLimit, messageLimit}
 use Rattle.grain128aead.specs.Order.{order}
 
--- The rows, in their order. Rows 1 to 3 are the same for both calls; for the others a call says whether they apply.
+-- The rows, in their order. Rows 1, 2, 15 and 3 are the same for both calls; for the others a call says whether they apply.
 unfoldable pub table : (key nonce ad : List ℕ) → (tooLong tooShort noRoom wrongTag : Bool) → List Row
 table key nonce ad tooLong tooShort noRoom wrongTag =
     (KeySize when not (eqb (length key) keySize))
     ∷ (NonceSize when not (eqb (length nonce) nonceSize))
+    ∷ (BlankKey when isBlank key)
     ∷ (AdTooLong when ltb adLimit (length ad))
     ∷ (MessageTooLong when tooLong)
     ∷ (SealedTooShort when tooShort)

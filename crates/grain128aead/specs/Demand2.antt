@@ -1,6 +1,6 @@
 -- Demand 2 on the definitions: a sealed payload is what the machine gives; opening accepts exactly what some message makes.
 use mathlib.Core.Path.{_≡_}
-use mathlib.Core.Logic.{_↔_}
+use mathlib.Core.Logic.{_↔_, _≢_}
 use mathlib.Core.List.{List}
 use Prim.Native.Nat.{ℕ, _+_, _≤_}
 use lib.ListN.{length}
@@ -8,25 +8,27 @@ use Rattle.bits.specs.Bytes.{Bytes}
 use Rattle.refusals.specs.Outcome.{Outcome, success}
 use Rattle.refusals.specs.Demand1.{Accepts}
 use Rattle.startup.specs.Sizes.{keySize, nonceSize}
+use Rattle.startup.specs.BlankKey.{blankKey}
 use Rattle.payload.specs.Sizes.{tagSize}
 use Rattle.payload.specs.Payload.{payload}
 use Rattle.grain128aead.specs.Sizes.{adLimit, messageLimit}
 
--- All sizes are legal.
+-- What is legal at the entry points: all sizes, and every key but the blank one (document 02, C-18).
 pub record Legal (key nonce ad message : List ℕ) : Type 0 where
   pub keySized : length key ≡ keySize
   pub nonceSized : length nonce ≡ nonceSize
+  pub keyNotBlank : key ≢ blankKey
   pub adFits : length ad ≤ adLimit
   pub messageFits : length message ≤ messageLimit
 
--- The payload p is genuine for the key, the nonce and the AD: these rules make it from them and the message, all of legal sizes. The
--- message is the old one of document 01.
+-- The payload p is genuine for the key, the nonce and the AD: these rules make it from them and the message, all legal. The message is
+-- the old one of document 01.
 pub record Makes (key nonce ad message p : List ℕ) : Type 0 where
   pub isBytes : Bytes message
   pub legal : Legal key nonce ad message
   pub made : payload key nonce ad message ≡ p
 
--- Sealing succeeds exactly with legal sizes and room for the payload, and then writes the payload.
+-- Sealing succeeds exactly with what is legal and room for the payload, and then writes the payload.
 pub record Sealing (key nonce ad message out : List ℕ) (o : Outcome) : Type 0 where
   pub accepts : Accepts o ↔ (Legal key nonce ad message × (length message + tagSize ≤ length out))
   pub seals : Legal key nonce ad message → length message + tagSize ≤ length out → o ≡ success (payload key nonce ad message) out

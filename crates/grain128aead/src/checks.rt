@@ -19,13 +19,20 @@ pub fn judge(
 ) -> Check
     ensures { λ r. ⌜ r ≡ refusals.check beforeTag (rows (now (key .entry)) (now (nonce .entry)) (now (ad .entry)) «too_long» «too_short» «no_room» false) ⌝ }
 {
-    if key.len() != 16 {
+    let key_size = key.len() != 16;
+    let nonce_size = nonce.len() != 12;
+    let blank = startup::key::is_blank(key);
+    let long_ad = AD_LIMIT < ad.len();
+    if key_size {
         return Check::Failed(Refusal::KeySize);
     }
-    if nonce.len() != 12 {
+    if nonce_size {
         return Check::Failed(Refusal::NonceSize);
     }
-    if AD_LIMIT < ad.len() {
+    if blank {
+        return Check::Failed(Refusal::BlankKey);
+    }
+    if long_ad {
         return Check::Failed(Refusal::AdTooLong);
     }
     if too_long {

@@ -12,6 +12,7 @@ pub enum Refusal {
     SealedTooShort,
     OutputTooShort,
     TagDiffers,
+    BlankKey,
 }
 
 // What some rows of a call come to.
@@ -26,7 +27,7 @@ pub enum Answer {
     Refused(Refusal),
 }
 
-// Document 01's number of a refusal.
+// The number of a refusal.
 pub fn number(r: Refusal) -> u8
     ensures { λ n. ⌜ n ≡ refusals.number r ⌝ }
 {
@@ -38,6 +39,7 @@ pub fn number(r: Refusal) -> u8
         Refusal::SealedTooShort => 5,
         Refusal::OutputTooShort => 6,
         Refusal::TagDiffers => 7,
+        Refusal::BlankKey => 15,
     }
 }
 

@@ -1,8 +1,12 @@
-// Document 01's examples that are not starred, at the limits of document 02 (C-14).
+// Document 01's examples that are not starred, at the limits of document 02 (C-14), and those of the blank key (C-18).
 use crate::tally;
 use crate::tally::Tally;
 use grain128aead::limits::AD_LIMIT;
 use grain128aead::limits::MESSAGE_LIMIT;
+
+const KEY: [u8; 16] = [0x5a; 16];
+
+const BLANK: [u8; 16] = [0; 16];
 
 const SEALED_LIMIT: usize = MESSAGE_LIMIT + 8;
 
@@ -24,13 +28,13 @@ fn front_mut(s: &mut [u8], n: usize) -> &mut [u8] {
     s
 }
 
-// The answer of a sealing with these sizes: the count, or minus the refusal.
-fn sealing(key: usize, nonce: usize, ad: usize, message: usize, out: usize) -> i64 {
+// The answer of a sealing with this key and these sizes: the count, or minus the refusal.
+fn sealing(key: &[u8], nonce: usize, ad: usize, message: usize, out: usize) -> i64 {
     let bytes = [0x5au8; LONGEST];
     let mut lent = [0xeeu8; LONGEST];
     let s: &[u8] = &bytes;
     capi::tikhoplav_seal(
-        front(s, key),
+        key,
         front(s, nonce),
         front(s, ad),
         front(s, message),
@@ -38,13 +42,13 @@ fn sealing(key: usize, nonce: usize, ad: usize, message: usize, out: usize) -> i
     )
 }
 
-// The answer of an opening of zeros.
-fn opening(ad: usize, sealed: usize, out: usize) -> i64 {
+// The answer of an opening of zeros with this key.
+fn opening(key: &[u8], ad: usize, sealed: usize, out: usize) -> i64 {
     let bytes = [0u8; LONGEST];
     let mut lent = [0xeeu8; LONGEST];
     let s: &[u8] = &bytes;
     capi::tikhoplav_open(
-        front(s, 16),
+        key,
         front(s, 12),
         front(s, ad),
         front(s, sealed),
@@ -58,7 +62,7 @@ fn ad(t: Tally, size: usize, rest: &[u8], answer: i64) -> Tally {
         b"AD of ",
         size,
         rest,
-        sealing(16, 12, size, 0, 8) == answer,
+        sealing(&KEY, 12, size, 0, 8) == answer,
     )
 }
 
@@ -68,7 +72,7 @@ fn opened_with_ad(t: Tally, size: usize, rest: &[u8], answer: i64) -> Tally {
         b"opened with an AD of ",
         size,
         rest,
-        opening(size, 8, 0) == answer,
+        opening(&KEY, size, 8, 0) == answer,
     )
 }
 
@@ -78,7 +82,7 @@ fn message(t: Tally, size: usize, room: usize, rest: &[u8], answer: i64) -> Tall
         b"message of ",
         size,
         rest,
-        sealing(16, 12, 0, size, room) == answer,
+        sealing(&KEY, 12, 0, size, room) == answer,
     )
 }
 
@@ -88,7 +92,7 @@ fn sealed_input(t: Tally, size: usize, room: usize, rest: &[u8], answer: i64) ->
         b"sealed input of ",
         size,
         rest,
-        opening(0, size, room) == answer,
+        opening(&KEY, 0, size, room) == answer,
     )
 }
 
@@ -128,37 +132,82 @@ pub fn order(t: Tally) -> Tally {
     let t1 = tally::line(
         t,
         b"a 15-byte key with a 13-byte nonce gives 1",
-        sealing(15, 13, 0, 0, 8) == -1,
+        sealing(&[0x5a; 15], 13, 0, 0, 8) == -1,
     );
     let t2 = tally::line(
         t1,
         b"a 13-byte nonce with a long AD gives 2",
-        sealing(16, 13, AD_LIMIT + 1, 0, 8) == -2,
+        sealing(&KEY, 13, AD_LIMIT + 1, 0, 8) == -2,
     );
     let t3 = tally::line(
         t2,
         b"a long AD with a long message gives 3",
-        sealing(16, 12, AD_LIMIT + 1, MESSAGE_LIMIT + 1, 8) == -3,
+        sealing(&KEY, 12, AD_LIMIT + 1, MESSAGE_LIMIT + 1, 8) == -3,
     );
     let t4 = tally::line(
         t3,
         b"a long message with no room gives 4",
-        sealing(16, 12, 0, MESSAGE_LIMIT + 1, 0) == -4,
+        sealing(&KEY, 12, 0, MESSAGE_LIMIT + 1, 0) == -4,
     );
     let t5 = tally::line(
         t4,
         b"output one byte short gives 6",
-        sealing(16, 12, 0, 5, 12) == -6,
+        sealing(&KEY, 12, 0, 5, 12) == -6,
     );
     let t6 = tally::line(
         t5,
         b"output one byte short gives 6 even if the tag is wrong",
-        opening(0, 13, 4) == -6,
+        opening(&KEY, 0, 13, 4) == -6,
     );
     tally::line(
         t6,
         b"with room for it, the wrong tag gives 7",
-        opening(0, 13, 5) == -7,
+        opening(&KEY, 0, 13, 5) == -7,
+    )
+}
+
+// The blank key, and keys that are near it.
+pub fn blank_key(t: Tally) -> Tally {
+    let t1 = tally::line(
+        t,
+        b"a key of 16 zero bytes gives 15",
+        sealing(&BLANK, 12, 0, 0, 8) == -15,
+    );
+    let t2 = tally::line(
+        t1,
+        b"with a 13-byte nonce it gives 2",
+        sealing(&BLANK, 13, AD_LIMIT + 1, 0, 8) == -2,
+    );
+    let t3 = tally::line(
+        t2,
+        b"with a long AD, a long message and no room it gives 15",
+        sealing(&BLANK, 12, AD_LIMIT + 1, MESSAGE_LIMIT + 1, 0) == -15,
+    );
+    let t4 = tally::line(
+        t3,
+        b"with a sealed input of 7 bytes it gives 15",
+        opening(&BLANK, AD_LIMIT + 1, 7, 0) == -15,
+    );
+    let t5 = tally::line(
+        t4,
+        b"with no room and a wrong tag it gives 15",
+        opening(&BLANK, 0, 13, 4) == -15,
+    );
+    let t6 = tally::line(
+        t5,
+        b"15 zero bytes give 1",
+        sealing(&[0; 15], 12, 0, 0, 8) == -1,
+    );
+    let t7 = tally::line(
+        t6,
+        b"17 zero bytes give 1",
+        opening(&[0; 17], 0, 8, 0) == -1,
+    );
+    let last_bit = [0, 0, 0, 0, 0, 0, 0, 0, 0, 0, 0, 0, 0, 0, 0, 1];
+    tally::line(
+        t7,
+        b"15 zero bytes and the byte 01 pass",
+        sealing(&last_bit, 12, 0, 0, 8) == 8,
     )
 }
 

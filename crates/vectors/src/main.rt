@@ -1,4 +1,4 @@
-// Runs the published vectors on the machine below the entry points, document 01's unstarred examples on the calls, and the sum of two
+// Runs the published vectors on the machine below the entry points, the examples that are not starred on the calls, and the sum of two
 // tags beside that of registers. Prints a line for each, and the counts.
 mod examples;
 mod published;
@@ -12,6 +12,7 @@ fn main() {
     let vectors = published::run(begun);
     let edges = examples::edges(vectors);
     let refusals = examples::order(edges);
-    let largest = examples::largest(refusals);
+    let blank = examples::blank_key(refusals);
+    let largest = examples::largest(blank);
     tally::close(two_tags::run(largest));
 }

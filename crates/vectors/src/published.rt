@@ -1,4 +1,5 @@
-// The vectors of source document 000's appendix. The printed streams have no coded AD length, so they are runs of the machine.
+// The vectors of source document 000's appendix. The printed streams have no coded AD length, and the first is under the blank key,
+// which the calls refuse: so they are runs of the machine.
 use crate::tally::Tally;
 use machine::engine;
 use machine::engine::Engine;
