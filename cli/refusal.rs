@@ -7,6 +7,15 @@ use tikhoplav::sizes::{AD_MAX, KEY_SIZE, MESSAGE_MAX, NONCE_SIZE, SEALED_MAX, TA
 const WRONG_TAG: &str = "the tag is wrong: the key, the nonce, the associated data or the sealed \
     input is not as it was sealed";
 
+/// Zeros where a key should be, as a key that was never set.
+const BLANK_KEY: &str = "the key is 16 zero bytes, which anybody can guess";
+
+const MAKE_A_KEY: &str = "seal with a random one ('head -c 16 /dev/urandom >lab.key' makes one, \
+    for --key-file lab.key)";
+
+const TRUE_KEY: &str = "open with the key that it was sealed with; what was sealed with \
+    zeros opens with the version that sealed it, one before 3.0.0";
+
 /// Such versions coded an AD length of 128 to 255 in another way.
 const SEALED_BEFORE: &str =
     "a version before 2.0.0 sealed it: what those sealed with associated data \
@@ -34,6 +43,10 @@ pub fn sentence(call: Call, inputs: &Inputs, number: u8) -> String {
         6 => "the output is too short".to_string(),
         7 if (128..=255).contains(&inputs.ad.len()) => format!("{WRONG_TAG}, or {SEALED_BEFORE}"),
         7 => WRONG_TAG.to_string(),
+        15 => match call {
+            Call::Seal => format!("{BLANK_KEY}: {MAKE_A_KEY}"),
+            Call::Open => format!("{BLANK_KEY}: {TRUE_KEY}"),
+        },
         _ => unreachable!("the header names no refusal {number}"),
     }
 }

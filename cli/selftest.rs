@@ -2,10 +2,11 @@
 
 use crate::failure::Failure;
 use crate::streams;
-use tikhoplav::archive;
+use tikhoplav::archive::{self, Call};
 use tikhoplav::hex;
 use tikhoplav::sizes::{KEY_SIZE, NONCE_SIZE, TAG_SIZE};
-use tikhoplav::vectors::{counting, Published, Sealed, PUBLISHED, SEALED};
+use tikhoplav::vectors::{counting, Published, Sealed, Summand, UnderBlankKey};
+use tikhoplav::vectors::{PUBLISHED, SEALED, UNDER_BLANK_KEY};
 
 struct Check {
     what: String,
@@ -18,23 +19,34 @@ published vectors of Grain-128AEAD (appendix A of the paper), through seal
   tag is checked as the sum of the tags of three strings that sum to the published string.
 ";
 
+const BLANK_HEADING: &str = "\
+the blank key (00000000000000000000000000000000), through seal and open
+  Published vector 1 is under this key. It is not run here, since both calls refuse the key. The
+  program vectors of the source tree runs it on the machine below them (make, then build/vectors).
+";
+
 const SEALED_HEADING: &str = "\
 stored payloads of counting bytes (00 01 02 ..), through seal and open
 ";
 
 pub fn run() -> Result<(), Failure> {
-    let published: Vec<Check> = PUBLISHED.iter().flat_map(published).collect();
-    let sealed: Vec<Check> = SEALED.iter().flat_map(sealed).collect();
-    let checks = published.iter().chain(&sealed);
+    let sections = [
+        (
+            PUBLISHED_HEADING,
+            PUBLISHED.iter().flat_map(published).collect(),
+        ),
+        (BLANK_HEADING, Vec::from(blank())),
+        (SEALED_HEADING, SEALED.iter().flat_map(sealed).collect()),
+    ];
+    let checks = sections.iter().flat_map(|(_, checks)| checks);
     let total = checks.clone().count();
     let failed = checks.filter(|check| !check.passed).count();
     let passed = total - failed;
-    let verdict = format!("{passed} passed, {failed} failed\n");
-    let report = PUBLISHED_HEADING.to_string()
-        + &lines(&published)
-        + SEALED_HEADING
-        + &lines(&sealed)
-        + &verdict;
+    let mut report: String = sections
+        .iter()
+        .map(|(heading, checks)| heading.to_string() + &lines(checks))
+        .collect();
+    report += &format!("{passed} passed, {failed} failed\n");
     streams::write_stdout(report.as_bytes())?;
     match failed {
         0 => Ok(()),
@@ -56,26 +68,30 @@ fn check(what: String, passed: bool) -> Check {
     Check { what, passed }
 }
 
-fn published(vector: &Published) -> [Check; 2] {
+/// A vector that has no summands is not run.
+fn published(vector: &Published) -> Vec<Check> {
+    let Some(summands) = &vector.summands else {
+        return Vec::new();
+    };
     let key = hex::encode(&vector.key);
     // The first keystream byte lies under the coded length of the empty AD, the rest under zeros.
     let payload = payload(&vector.key, &vector.nonce, &[], &[0; 15]);
     let keystream = vector.keystream.to_be_bytes();
-    [
+    vec![
         check(
             format!("key {key}: the keystream from its second byte on"),
             payload.is_some_and(|payload| payload[..15] == keystream[1..]),
         ),
         check(
             format!("key {key}: the tag"),
-            sum_of_tags(vector) == Some(vector.tag),
+            sum_of_tags(vector, summands) == Some(vector.tag),
         ),
     ]
 }
 
-fn sum_of_tags(vector: &Published) -> Option<u64> {
+fn sum_of_tags(vector: &Published, summands: &[Summand]) -> Option<u64> {
     let mut sum = 0;
-    for summand in &vector.summands {
+    for summand in summands {
         let payload = payload(
             &vector.key,
             &vector.nonce,
@@ -85,6 +101,30 @@ fn sum_of_tags(vector: &Published) -> Option<u64> {
         sum ^= u64::from_be_bytes(*payload.last_chunk()?);
     }
     Some(sum)
+}
+
+/// Both calls refuse the blank key, with room for what they would write.
+fn blank() -> [Check; 2] {
+    let UnderBlankKey {
+        nonce,
+        ad,
+        message,
+        payload,
+    } = UNDER_BLANK_KEY;
+    let refused = |call: Call, data: &[u8]| {
+        let mut out = [0xa5; 64];
+        call.run(&[0; KEY_SIZE], &nonce, ad, data, &mut out) == -15 && out == [0xa5; 64]
+    };
+    [
+        check(
+            "seal refuses it with 15, and nothing is written".to_string(),
+            refused(Call::Seal, message),
+        ),
+        check(
+            "open refuses it with 15, and nothing is written".to_string(),
+            refused(Call::Open, payload),
+        ),
+    ]
 }
 
 fn sealed(vector: &Sealed) -> [Check; 3] {

@@ -23,6 +23,8 @@
  *   - Each pointer leads to as many bytes as the length after it says: readable, and for `out` writable.
  *   - `out` overlaps none of the call's inputs. (The inputs are only read, and may overlap one another.)
  *   - A nonce is never used for two sealings under one key. If it is, secrecy is lost, and no call can notice it.
+ *   - The key is random and secret. Of the keys that can be guessed the calls notice one, 16 zero bytes (the blank
+ *     key), and refuse it.
  *
  *   A slice of length 0 may have any pointer, NULL included: nothing is read or written through it. So an empty AD is
  *   NULL, 0; an empty message is NULL, 0; and the output of opening an empty message may be NULL, 0.
@@ -49,7 +51,10 @@
  *   Versions before 2.1.0 have lower limits. What this one seals above them they refuse, with
  *   TIKHOPLAV_REFUSED_AD_TOO_LONG or TIKHOPLAV_REFUSED_MESSAGE_TOO_LONG.
  *
- *   Apart from these two, each version opens what another seals.
+ *   Versions before 3.0.0 take the blank key. What they sealed under it this version refuses, with
+ *   TIKHOPLAV_REFUSED_BLANK_KEY: open it with the version that sealed it, and seal it again under a random key.
+ *
+ *   Apart from these three, each version opens what another seals.
  *
  * What is not promised
  *
@@ -84,7 +89,7 @@
 extern "C" {
 #endif
 
-#define TIKHOPLAV_VERSION "2.1.0"
+#define TIKHOPLAV_VERSION "3.0.0"
 
 /* Sizes in bytes. A key and a nonce have exactly these; a sealed payload ends with exactly such a tag. */
 #define TIKHOPLAV_KEY_SIZE 16
@@ -98,8 +103,9 @@ extern "C" {
 #define TIKHOPLAV_SEALED_MAX (TIKHOPLAV_MESSAGE_MAX + TIKHOPLAV_TAG_SIZE)
 
 /*
- * Refusals of sealing and opening. The checks run in this order, and the first that applies is the answer: a call with
- * a short key and a long nonce answers -1, and an output that is too short answers -6 even where the tag is wrong too.
+ * Refusals of sealing and opening. The checks run in this order, which is not that of the numbers, and the first that
+ * applies is the answer: a call with a short key and a long nonce answers -1, one with a blank key and too long an AD
+ * answers -15, and an output that is too short answers -6 even where the tag is wrong too.
  */
 
 /* key_len is not TIKHOPLAV_KEY_SIZE. */
@@ -107,6 +113,11 @@ extern "C" {
 
 /* nonce_len is not TIKHOPLAV_NONCE_SIZE. */
 #define TIKHOPLAV_REFUSED_NONCE_SIZE (-2)
+
+/* The key is blank: all of its 16 bytes are zero, as in a buffer that no key was ever copied to. What to do: for
+   sealing draw a random key, for opening take the key that was used to seal. (Zeros of another length are
+   TIKHOPLAV_REFUSED_KEY_SIZE.) */
+#define TIKHOPLAV_REFUSED_BLANK_KEY (-15)
 
 /* ad_len is over TIKHOPLAV_AD_MAX. */
 #define TIKHOPLAV_REFUSED_AD_TOO_LONG (-3)
@@ -129,10 +140,11 @@ extern "C" {
  * Seals message[0 .. message_len - 1].
  *
  * Writes the ciphertext to out[0 .. message_len - 1], the tag to the TIKHOPLAV_TAG_SIZE bytes after it, and answers
- * message_len + TIKHOPLAV_TAG_SIZE. Whenever the sizes are legal and out_len is at least that, it succeeds.
+ * message_len + TIKHOPLAV_TAG_SIZE. Whenever the sizes are legal, the key is not blank and out_len is at least that, it
+ * succeeds.
  *
  * Otherwise it answers the first of these that applies, and writes nothing:
- * KEY_SIZE, NONCE_SIZE, AD_TOO_LONG, MESSAGE_TOO_LONG, OUTPUT_TOO_SHORT.
+ * KEY_SIZE, NONCE_SIZE, BLANK_KEY, AD_TOO_LONG, MESSAGE_TOO_LONG, OUTPUT_TOO_SHORT.
  */
 int64_t tikhoplav_seal(const uint8_t *key, size_t key_len, const uint8_t *nonce, size_t nonce_len,
                        const uint8_t *ad, size_t ad_len, const uint8_t *message, size_t message_len,
@@ -145,7 +157,7 @@ int64_t tikhoplav_seal(const uint8_t *key, size_t key_len, const uint8_t *nonce,
  * TIKHOPLAV_TAG_SIZE, which is 0 for an empty message.
  *
  * Otherwise it answers the first of these that applies, and writes nothing:
- * KEY_SIZE, NONCE_SIZE, AD_TOO_LONG, MESSAGE_TOO_LONG, SEALED_TOO_SHORT, OUTPUT_TOO_SHORT, TAG_DIFFERS.
+ * KEY_SIZE, NONCE_SIZE, BLANK_KEY, AD_TOO_LONG, MESSAGE_TOO_LONG, SEALED_TOO_SHORT, OUTPUT_TOO_SHORT, TAG_DIFFERS.
  */
 int64_t tikhoplav_open(const uint8_t *key, size_t key_len, const uint8_t *nonce, size_t nonce_len,
                        const uint8_t *ad, size_t ad_len, const uint8_t *sealed, size_t sealed_len,

@@ -233,6 +233,41 @@ static void longer_outputs(void)
     release(&j);
 }
 
+/* The blank key on a job that is legal but for its key: alone, with a wrong nonce, and with all else wrong that can
+   be. Then zeros of another length, and keys with one bit. */
+static void blank_key(call *f, const job *legal)
+{
+    uint8_t zeros[TIKHOPLAV_KEY_SIZE + 1] = { 0 };
+    slice too_much = counting(TIKHOPLAV_AD_MAX + 1, 0); /* over every limit */
+    unsigned bit;
+    job j = *legal;
+
+    j.key.bytes = zeros;
+    j.key.len = TIKHOPLAV_KEY_SIZE;
+    refused(f, &j, TIKHOPLAV_REFUSED_BLANK_KEY);
+    j.nonce.len--;
+    refused(f, &j, TIKHOPLAV_REFUSED_NONCE_SIZE);
+    j.nonce.len++;
+    j.ad = j.data = too_much;
+    j.out.len = 0;
+    refused(f, &j, TIKHOPLAV_REFUSED_BLANK_KEY);
+    j.data.len = 0;
+    refused(f, &j, TIKHOPLAV_REFUSED_BLANK_KEY);
+    j.key.len--;
+    refused(f, &j, TIKHOPLAV_REFUSED_KEY_SIZE);
+    j.key.len += 2;
+    refused(f, &j, TIKHOPLAV_REFUSED_KEY_SIZE);
+    j = *legal;
+    j.key.bytes = zeros;
+    j.out.len = 0;
+    for (bit = 0; bit < 8 * TIKHOPLAV_KEY_SIZE; bit++) {
+        zeros[bit / 8] = (uint8_t)(0x80 >> bit % 8);
+        refused(f, &j, TIKHOPLAV_REFUSED_OUTPUT_TOO_SHORT);
+        zeros[bit / 8] = 0;
+    }
+    free(too_much.bytes);
+}
+
 /* The refusals of both calls, on a legal job of the call. Each fault is repaired before the next. */
 static void common_refusals(call *f, job *j)
 {
@@ -248,6 +283,7 @@ static void common_refusals(call *f, job *j)
     resize(&j->nonce, TIKHOPLAV_NONCE_SIZE - 1);
     refused(f, j, TIKHOPLAV_REFUSED_NONCE_SIZE);
     resize(&j->nonce, TIKHOPLAV_NONCE_SIZE);
+    blank_key(f, j);
     resize(&j->ad, TIKHOPLAV_AD_MAX + 1);
     refused(f, j, TIKHOPLAV_REFUSED_AD_TOO_LONG);
     resize(&j->ad, ad_len);
@@ -346,6 +382,7 @@ static void constants(void)
     CHECK(TIKHOPLAV_REFUSED_SEALED_TOO_SHORT == -5);
     CHECK(TIKHOPLAV_REFUSED_OUTPUT_TOO_SHORT == -6);
     CHECK(TIKHOPLAV_REFUSED_TAG_DIFFERS == -7);
+    CHECK(TIKHOPLAV_REFUSED_BLANK_KEY == -15);
 }
 
 int main(void)

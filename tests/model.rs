@@ -65,7 +65,7 @@ pub struct Machine {
 }
 
 impl Machine {
-    /// The machine after start-up: 16 bytes of key, 12 of nonce, 384 clocks.
+    /// The machine after start-up: 16 bytes of key, whatever they are, 12 of nonce, 384 clocks.
     pub fn start(key: &[u8], nonce: &[u8]) -> Machine {
         let key = bits(key);
         let mut machine = Machine {
@@ -179,6 +179,7 @@ pub fn seal(
     refuse(&[
         (1, key.len() != KEY_SIZE),
         (2, nonce.len() != NONCE_SIZE),
+        (15, key == [0; KEY_SIZE]),
         (3, ad.len() > AD_MAX),
         (4, message.len() > MESSAGE_MAX),
         (6, room < message.len() + TAG_SIZE),
@@ -186,7 +187,7 @@ pub fn seal(
     Ok(payload(key, nonce, &coded_length(ad.len()), ad, message))
 }
 
-/// The payload in whose authenticated string the AD's length is coded so.
+/// The payload in whose authenticated string the AD's length is coded so. No row is tried.
 pub fn payload(
     key: &[u8],
     nonce: &[u8],
@@ -223,6 +224,7 @@ pub fn open(
     refuse(&[
         (1, key.len() != KEY_SIZE),
         (2, nonce.len() != NONCE_SIZE),
+        (15, key == [0; KEY_SIZE]),
         (3, ad.len() > AD_MAX),
         (4, sealed.len() > SEALED_MAX),
         (5, sealed.len() < TAG_SIZE),

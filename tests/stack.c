@@ -12,7 +12,8 @@ enum { ENOUGH = 1024 };
 enum { STACK_SIZE = 1 << 16, PATTERN = 0xa5 };
 
 static uint8_t stack[STACK_SIZE];
-static uint8_t key[TIKHOPLAV_KEY_SIZE], nonce[TIKHOPLAV_NONCE_SIZE], ad[TIKHOPLAV_AD_MAX];
+static uint8_t key[TIKHOPLAV_KEY_SIZE] = { 1 }, blank[TIKHOPLAV_KEY_SIZE];
+static uint8_t nonce[TIKHOPLAV_NONCE_SIZE], ad[TIKHOPLAV_AD_MAX];
 static uint8_t message[TIKHOPLAV_MESSAGE_MAX], sealed[TIKHOPLAV_SEALED_MAX];
 static int64_t answer;
 
@@ -36,6 +37,12 @@ static void seal_too_much(void)
 {
     answer = tikhoplav_seal(key, sizeof key, nonce, sizeof nonce, ad, sizeof ad, sealed, sizeof sealed, message,
                             sizeof message);
+}
+
+static void seal_under_the_blank_key(void)
+{
+    answer = tikhoplav_seal(blank, sizeof blank, nonce, sizeof nonce, ad, sizeof ad, message, sizeof message, sealed,
+                            sizeof sealed);
 }
 
 static void open_the_largest(void)
@@ -64,6 +71,7 @@ static const trial trials[] = {
     { seal_nothing, TIKHOPLAV_TAG_SIZE },
     { seal_the_largest, TIKHOPLAV_SEALED_MAX },
     { seal_too_much, TIKHOPLAV_REFUSED_MESSAGE_TOO_LONG },
+    { seal_under_the_blank_key, TIKHOPLAV_REFUSED_BLANK_KEY },
     { open_the_largest, TIKHOPLAV_MESSAGE_MAX },
     { open_without_the_ad, TIKHOPLAV_REFUSED_TAG_DIFFERS },
     { size_of_the_largest, TIKHOPLAV_MESSAGE_MAX },

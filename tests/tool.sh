@@ -201,6 +201,36 @@ refusals() {
   refuses 5 "the sealed input is 7 bytes, and its tag alone is 8" open "${secrets[@]}"
 }
 
+blank_key() {
+  local zeros=00000000000000000000000000000000 before=745ae7df99e53357c1e73755b3251b58e360a2a0ccdb9d
+  local is="the key is 16 zero bytes, which anybody can guess"
+  local seal="$is: seal with a random one ('head -c 16 /dev/urandom >lab.key' makes one, for --key-file lab.key)"
+  local open="$is: open with the key that it was sealed with"
+  open+="; what was sealed with zeros opens with the version that sealed it, one before 3.0.0"
+  bytes 16 >key
+  bytes $((ad_max + 1)) >ad
+  bytes 20 >input
+  refuses 15 "$seal" seal --key "$zeros" --nonce "$nonce"
+  refuses 15 "$seal" seal --key-file key --nonce "$nonce" --ad-file ad
+  refuses 15 "$open" open --key "$zeros" --nonce "$nonce"
+  bytes $((sealed_max + 1)) >input
+  refuses 15 "$seal" seal --key "$zeros" --nonce "$nonce" --ad-file ad
+  refuses 15 "$open" open --key "$zeros" --nonce "$nonce" --ad-file ad
+  bytes 7 >input
+  refuses 15 "$open" open --key "$zeros" --nonce "$nonce"
+  refuses 2 "the nonce is 11 bytes, and must be 12" open --key "$zeros" --nonce "${nonce%??}"
+  refuses 1 "the key is 15 bytes, and must be 16" seal --key "${zeros%??}" --nonce "$nonce"
+  refuses 1 "the key is 17 bytes, and must be 16" open --key "$zeros"00 --nonce "$nonce"
+  echo "$before" >input # sealed by a version before 3.0.0
+  refuses 15 "$open" open --key "$zeros" --nonce 000000000000000000000001 --ad 07e8 --hex-in
+  for one_bit in "80${zeros:2}" "${zeros:2}01"; do
+    echo 00 >input
+    run 0 seal --key "$one_bit" --nonce "$nonce" --out sealed
+    run 0 open --key "$one_bit" --nonce "$nonce" --in sealed --out opened
+    check "a key with one bit" cmp input opened
+  done
+}
+
 wrong_usage() {
   : >input
   misused "no command"
@@ -245,6 +275,7 @@ help_and_selftest() {
   run 0 --help
   check "--help shows the usage" grep -q "^usage: tikhoplav seal" output
   check "--help has the limit of the AD" grep -q "3 the AD is over $ad_max bytes" output
+  check "--help has the blank key" grep -q "15 the key is 16 zero bytes" output
   check "--help has the limits of the data" \
     grep -q "4 the message is over $message_max bytes, or the sealed input over $sealed_max" output
   cp output help
@@ -253,7 +284,6 @@ help_and_selftest() {
     check "$command --help" cmp help output
   done
   bytes 500 >log.bin
-  bytes 16 >lab.key
   bytes 12 >0001.nonce
   sed -n '/^EXAMPLES/,$s/^    //p' help >examples
   check "the examples of --help" env PATH="$(dirname "$tool"):$PATH" sh -e examples >shown
@@ -265,6 +295,7 @@ help_and_selftest() {
   check "--version" [ "$(cat output)" = "tikhoplav $version" ]
   run 0 selftest
   check "selftest" [ "$(tail -n 1 output)" = "31 passed, 0 failed" ]
+  check "selftest says which published vector it leaves out" grep -q "^  Published vector 1 is under this key" output
 }
 
 round_trips
@@ -274,6 +305,7 @@ another_tag
 file_in_place
 parts
 refusals
+blank_key
 wrong_usage
 input_and_output_fail
 help_and_selftest

@@ -4,6 +4,7 @@ mod ad_lengths;
 mod damage;
 mod flips;
 mod judge;
+mod keys;
 mod order;
 mod outputs;
 mod parts;
@@ -22,7 +23,7 @@ const SEED: u64 = 128;
 
 type Group = fn(&mut Judge) -> Verdict;
 
-const GROUPS: [(&str, Group); 22] = [
+const GROUPS: [(&str, Group); 25] = [
     ("published vectors, on the model", vectors::published),
     (
         "stored answers of the selftest, on the model",
@@ -35,6 +36,9 @@ const GROUPS: [(&str, Group); 22] = [
     ("sealed inputs short and long", sizes::sealed_inputs),
     ("parts of sealed inputs", parts::run),
     ("sizes of keys and nonces", sizes::keys_and_nonces),
+    ("the blank key", keys::blank),
+    ("keys of zeros", keys::zeros),
+    ("keys with one byte that is not zero", keys::nearly_blank),
     ("random sizes", sizes::random),
     ("random sizes up to the limits", sizes::random_long),
     ("outputs short, exact and longer", outputs::run),

@@ -8,12 +8,13 @@ use tikhoplav::sizes::{AD_MAX, MESSAGE_MAX, SEALED_MAX, TAG_SIZE};
 pub fn run(judge: &mut Judge) -> Verdict {
     let sealing = judge.sealing(10, 20);
     let opening = judge.opening(&sealing);
-    every_set(judge, &sealing, &[1, 2, 3, 4, 6])?;
-    every_set(judge, &opening, &[1, 2, 3, 4, 6, 7])?;
-    every_set(judge, &opening, &[1, 2, 3, 5, 7])
+    every_set(judge, &sealing, &[1, 2, 15, 3, 4, 6])?;
+    every_set(judge, &opening, &[1, 2, 15, 3, 4, 6, 7])?;
+    every_set(judge, &opening, &[1, 2, 15, 3, 5, 7])
 }
 
-/// Makes every set of these rows apply but the empty one; the lowest of the set is the answer.
+/// Makes every set of these rows apply but the empty one; the first of the set is the answer. (Rows
+/// 1 and 15 exclude each other: together they make a key of 15 zero bytes.)
 fn every_set(judge: &mut Judge, legal: &Trial, rows: &[u8]) -> Verdict {
     for set in 1..1_usize << rows.len() {
         let chosen = rows.iter().enumerate().filter(|(i, _)| set >> i & 1 == 1);
@@ -32,6 +33,7 @@ fn make_apply(trial: &mut Trial, row: u8) {
     match (row, trial.call) {
         (1, _) => trial.key.truncate(15),
         (2, _) => trial.nonce.push(0),
+        (15, _) => trial.key.fill(0),
         (3, _) => trial.ad.resize(AD_MAX + 1, 0),
         (4, Call::Seal) => with_room(trial, MESSAGE_MAX + 1),
         (4, Call::Open) => with_room(trial, SEALED_MAX + 1),

@@ -4,7 +4,7 @@ use crate::judge::{Judge, Verdict};
 use model::Machine;
 use tikhoplav::hex;
 use tikhoplav::sizes::{KEY_SIZE, NONCE_SIZE, TAG_SIZE};
-use tikhoplav::vectors::{counting, Published, PUBLISHED, SEALED};
+use tikhoplav::vectors::{counting, Published, Summand, PUBLISHED, SEALED, UNDER_BLANK_KEY};
 
 pub fn published(judge: &mut Judge) -> Verdict {
     for vector in &PUBLISHED {
@@ -13,10 +13,12 @@ pub fn published(judge: &mut Judge) -> Verdict {
             keystream(vector) == vector.keystream,
         )?;
         judge.holds("the model's tag is as published", tag(vector) == vector.tag)?;
-        judge.holds(
-            "the summands' strings sum to the published one",
-            sum(vector) == vector.string,
-        )?;
+        if let Some(summands) = &vector.summands {
+            judge.holds(
+                "the summands' strings sum to the published one",
+                sum(summands) == vector.string,
+            )?;
+        }
     }
     Ok(())
 }
@@ -37,9 +39,9 @@ fn tag(vector: &Published) -> u64 {
 }
 
 /// The sum of the summands' strings, without the zero bytes at its end.
-fn sum(vector: &Published) -> Vec<u8> {
+fn sum(summands: &[Summand]) -> Vec<u8> {
     let mut sum = Vec::new();
-    for summand in &vector.summands {
+    for summand in summands {
         let (ad, message) = (summand.ad(), summand.message());
         let string = [model::coded_length(ad.len()), ad, message, vec![0x80]].concat();
         sum.resize(sum.len().max(string.len()), 0);
@@ -52,6 +54,13 @@ fn sum(vector: &Published) -> Vec<u8> {
 }
 
 pub fn stored(judge: &mut Judge) -> Verdict {
+    let blank = UNDER_BLANK_KEY;
+    let coded_length = model::coded_length(blank.ad.len());
+    let key = [0; KEY_SIZE];
+    judge.holds(
+        "the stored payload under the blank key is the model's",
+        model::payload(&key, &blank.nonce, &coded_length, blank.ad, blank.message) == blank.payload,
+    )?;
     for vector in &SEALED {
         let payload = model::seal(
             &counting(KEY_SIZE),
