@@ -13,10 +13,10 @@ use Rattle.bits.specs.Bytes.{Bytes}
 use Rattle.refusals.specs.declared.Refusal.the-variants.{TagDiffers}
 use Rattle.refusals.specs.declared.Check.{Check}
 use Rattle.refusals.specs.declared.Check.the-variants.{Passed}
-use Rattle.refusals.specs.Refusals.{among, check}
+use Rattle.refusals.specs.Refusals.{among, after, check}
 use Rattle.refusals.specs.Outcome.{Outcome, settled, refused, success}
 use Rattle.refusals.specs.Demand1.{Accepts}
-use Rattle.refusals.proofs.LastRow.{after, settled-last}
+use Rattle.refusals.proofs.LastRow.{settled-last}
 use Rattle.startup.specs.Sizes.{keySize, nonceSize}
 use Rattle.startup.specs.BlankKey.{blankKey}
 use Rattle.startup.proofs.BlankKey.{unequal-not-blank}

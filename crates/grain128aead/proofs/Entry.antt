@@ -19,9 +19,10 @@ use Rattle.refusals.specs.declared.Check.the-variants.{Passed, Failed}
 use Rattle.refusals.specs.declared.Refusal.{Refusal}
 use Rattle.refusals.specs.declared.Refusal.the-variants.{TagDiffers}
 use Rattle.refusals.specs.declared.Answer.the-variants.{Count, Refused}
+use Rattle.refusals.specs.Refusals.{after}
 use Rattle.refusals.specs.Outcome.{outcome, refused, success, settled}
 use Rattle.refusals.proofs.Demand1.{decides}
-use Rattle.refusals.proofs.LastRow.{after, settled-last}
+use Rattle.refusals.proofs.LastRow.{settled-last}
 use Rattle.machine.specs.declared.engine.Engine.{Engine}
 use Rattle.machine.specs.Machine.{State, run, crypt, decipher}
 use Rattle.machine.specs.Engine.{stateOf, CryptsAll}

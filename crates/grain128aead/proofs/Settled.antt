@@ -8,9 +8,9 @@ use lib.Dec.{ltb}
 use lib.ListN.{length}
 use Rattle.refusals.specs.declared.Refusal.the-variants.{TagDiffers}
 use Rattle.refusals.specs.declared.Check.{Check}
-use Rattle.refusals.specs.Refusals.{among, check}
+use Rattle.refusals.specs.Refusals.{among, after, check}
 use Rattle.refusals.specs.Outcome.{settled, judged}
-use Rattle.refusals.proofs.LastRow.{after, after-false, check-last}
+use Rattle.refusals.proofs.LastRow.{after-false, check-last}
 use Rattle.payload.specs.Sizes.{tagSize}
 use Rattle.payload.specs.Payload.{payload}
 use Rattle.grain128aead.specs.Sizes.{messageLimit}

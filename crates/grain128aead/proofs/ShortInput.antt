@@ -9,8 +9,9 @@ use lib.Dec.{ltb}
 use lib.ListN.{length}
 use Rattle.refusals.specs.declared.Refusal.the-variants.{TagDiffers}
 use Rattle.refusals.specs.declared.Check.{Check}
+use Rattle.refusals.specs.Refusals.{after}
 use Rattle.refusals.specs.Outcome.{settled, judged}
-use Rattle.refusals.proofs.LastRow.{after, settled-earlier}
+use Rattle.refusals.proofs.LastRow.{settled-earlier}
 use Rattle.payload.specs.Sizes.{tagSize}
 use Rattle.grain128aead.specs.Sizes.{messageLimit}
 use Rattle.grain128aead.specs.Calls.{recovered, tagDiffers}

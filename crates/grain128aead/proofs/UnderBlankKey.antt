@@ -10,9 +10,8 @@ use Rattle.bits.specs.Bytes.{same}
 use Rattle.refusals.specs.declared.Refusal.the-variants.{NonceSize, TagDiffers, BlankKey}
 use Rattle.refusals.specs.declared.Check.{Check}
 use Rattle.refusals.specs.declared.Check.the-variants.{Failed}
-use Rattle.refusals.specs.Refusals.{among, check}
+use Rattle.refusals.specs.Refusals.{among, after, check}
 use Rattle.refusals.specs.Outcome.{settled}
-use Rattle.refusals.proofs.LastRow.{after}
 use Rattle.startup.specs.Sizes.{nonceSize}
 use Rattle.startup.specs.BlankKey.{blankKey, isBlank}
 use Rattle.payload.specs.Payload.{payload}

@@ -19,30 +19,12 @@ pub fn judge(
 ) -> Check
     ensures { λ r. ⌜ r ≡ refusals.check beforeTag (rows (now (key .entry)) (now (nonce .entry)) (now (ad .entry)) «too_long» «too_short» «no_room» false) ⌝ }
 {
-    let key_size = key.len() != 16;
-    let nonce_size = nonce.len() != 12;
     let blank = startup::key::is_blank(key);
-    let long_ad = AD_LIMIT < ad.len();
-    if key_size {
-        return Check::Failed(Refusal::KeySize);
-    }
-    if nonce_size {
-        return Check::Failed(Refusal::NonceSize);
-    }
-    if blank {
-        return Check::Failed(Refusal::BlankKey);
-    }
-    if long_ad {
-        return Check::Failed(Refusal::AdTooLong);
-    }
-    if too_long {
-        return Check::Failed(Refusal::MessageTooLong);
-    }
-    if too_short {
-        return Check::Failed(Refusal::SealedTooShort);
-    }
-    if no_room {
-        return Check::Failed(Refusal::OutputTooShort);
-    }
-    Check::Passed
+    let c = refusals::after(Check::Passed, Refusal::KeySize, key.len() != 16);
+    let c = refusals::after(c, Refusal::NonceSize, nonce.len() != 12);
+    let c = refusals::after(c, Refusal::BlankKey, blank);
+    let c = refusals::after(c, Refusal::AdTooLong, AD_LIMIT < ad.len());
+    let c = refusals::after(c, Refusal::MessageTooLong, too_long);
+    let c = refusals::after(c, Refusal::SealedTooShort, too_short);
+    refusals::after(c, Refusal::OutputTooShort, no_room)
 }

@@ -7,13 +7,8 @@ use Prim.Native.Nat.{ℕ}
 use Rattle.refusals.specs.declared.Refusal.{Refusal}
 use Rattle.refusals.specs.declared.Check.{Check}
 use Rattle.refusals.specs.declared.Check.the-variants.{Passed, Failed}
-use Rattle.refusals.specs.Refusals.{check}
+use Rattle.refusals.specs.Refusals.{after, check}
 use Rattle.refusals.specs.Outcome.{settled, refused, success}
-
--- What some rows come to when one more is tried.
-abbrev pub after : Check → Refusal → (applies : Bool) → Check
-after Passed r applies = cond applies (Failed r) Passed
-after (Failed q) r applies = Failed q
 
 pub after-false : (c : Check) (r : Refusal) → after c r false ≡ c
 after-false Passed r = refl

@@ -1,15 +1,38 @@
--- Rows of a call: a refusal that has none among them never applies.
+-- Rows of a call: tried one after the other they come to the first that applies; a refusal that has none among them never applies.
 -- Assumes nothing.
-use mathlib.Core.Path.{_≡_, refl, sym, ap, _∙_}
+use mathlib.Core.Path.{_≡_, refl, sym, ap, ap₂, _∙_}
 use mathlib.Core.Logic.{_⊎_, inl, inr, ⊎-elim}
 use mathlib.Core.Bool.{Bool, true, false, cond}
-use mathlib.Core.List.{List, [], _∷_, map, List·Memᴰ, List·Memᴰ·head, List·Memᴰ·tail}
+use mathlib.Core.List.{List, [], _∷_, map, foldl, List·Memᴰ, List·Memᴰ·head, List·Memᴰ·tail}
 use Prim.Native.Nat.{ℕ}
 use borrow.Author.Tests.{eqb-true}
 use lib.Dec.{eqb}
 use Rattle.refusals.specs.declared.Refusal.{Refusal}
-use Rattle.refusals.specs.Refusals.{number, Row, among}
+use Rattle.refusals.specs.declared.Check.{Check}
+use Rattle.refusals.specs.declared.Check.the-variants.{Passed, Failed}
+use Rattle.refusals.specs.Refusals.{number, Row, among, after, check}
 use Rattle.refusals.specs.Demand1.{NoOther}
+
+-- The rows of a list tried in turn, after some others.
+abbrev pub inOrder : (applies : Refusal → Bool) → Check → List Refusal → Check
+inOrder applies = foldl (λ c r. after c r (applies r))
+
+-- One more row, after rows that are known to come to something.
+pub row-more : (r : Refusal) {c c′ d : Check} {b b′ : Bool} → c ≡ c′ → b ≡ b′ → d ≡ after c r b → d ≡ after c′ r b′
+row-more r e f h = h ∙ ap₂ (λ (x : Check) (y : Bool). after x r y) e f
+
+failed-stays : (applies : Refusal → Bool) (q : Refusal) (rs : List Refusal) → inOrder applies (Failed q) rs ≡ Failed q
+failed-stays applies q [] = refl
+failed-stays applies q (r ∷ rs) = failed-stays applies q rs
+
+pub check-in-order : (applies : Refusal → Bool) (rs : List Refusal) → inOrder applies Passed rs ≡ check rs applies
+unfolding check
+check-in-order applies [] = refl
+check-in-order applies (r ∷ rs) = go (applies r) (check-in-order applies rs)
+  where
+    go : (b : Bool) → inOrder applies Passed rs ≡ check rs applies → inOrder applies (cond b (Failed r) Passed) rs ≡ cond b (Failed r) (check rs applies)
+    go true e = failed-stays applies r rs
+    go false e = e
 
 -- No refusal's row applies: of no rows, and of one row more that does not.
 abbrev pub Quiet : List Row → Type 0

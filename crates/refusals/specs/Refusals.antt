@@ -32,6 +32,11 @@ unfoldable pub among : List Row → Refusal → Bool
 among [] r = false
 among (row ∷ rows) r = cond (eqb (number (row .refusal)) (number r)) (row .applies) (among rows r)
 
+-- What some rows come to when one more is tried after them.
+abbrev pub after : Check → Refusal → (applies : Bool) → Check
+after Passed r applies = cond applies (Failed r) Passed
+after (Failed q) r applies = Failed q
+
 -- The first refusal of a list whose row applies. Each call has a list of its own, its order.
 unfoldable pub check : List Refusal → (applies : Refusal → Bool) → Check
 check [] applies = Passed

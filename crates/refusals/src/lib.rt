@@ -43,6 +43,22 @@ pub fn number(r: Refusal) -> u8
     }
 }
 
+// What some rows come to when one more is tried after them: the first that applies is the answer.
+pub fn after(rows: Check, r: Refusal, applies: bool) -> Check
+    ensures { λ c. ⌜ c ≡ refusals.after «rows» r «applies» ⌝ }
+{
+    match rows {
+        Check::Failed(q) => Check::Failed(q),
+        Check::Passed => {
+            if applies {
+                Check::Failed(r)
+            } else {
+                Check::Passed
+            }
+        }
+    }
+}
+
 // The count, or minus the number of the refusal. A count past the largest signed number is that number.
 pub fn signed(a: Answer) -> i64
     ensures { λ n. ⌜ n ≡ signedOf (capped a) ⌝ }

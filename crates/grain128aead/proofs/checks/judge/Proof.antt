@@ -1,59 +1,70 @@
 -- `grain128aead::checks::judge` meets its contract.
 -- Assumes nothing.
-use mathlib.Core.Path.{sym}
+use mathlib.Core.Path.{refl, _∙_}
+use mathlib.Core.Bool.{false}
 use borrow.Author.Needs.{needs}
-use Rattle.refusals.specs.Refusals.{among, check}
+use Rattle.refusals.specs.declared.Refusal.the-variants.{NonceSize, AdTooLong, MessageTooLong, SealedTooShort, OutputTooShort, BlankKey}
+use Rattle.refusals.specs.Refusals.{among}
+use Rattle.refusals.proofs.Rows.{row-more, check-in-order}
 use Rattle.grain128aead.specs.Sizes.{adLimit}
 use Rattle.grain128aead.specs.Order.{beforeTag}
-use Rattle.grain128aead.specs.Calls.{table}
+use Rattle.grain128aead.specs.Calls.{table, rows}
 use Rattle.grain128aead.proofs.checks.judge.Statement.{statement}
 use Rattle.grain128aead.proofs.checks.judge.Tie as tie
 
 is-blank-requires : tie.Need-is-blank-requires
 is-blank-requires c κs = search needs
 
+after-requires : tie.Need-after-requires
+after-requires c κs = search needs
+
+after-requires-2 : tie.Need-after-requires-2
+after-requires-2 c κs = search needs
+
+after-requires-3 : tie.Need-after-requires-3
+after-requires-3 c κs = search needs
+
+after-requires-4 : tie.Need-after-requires-4
+after-requires-4 c κs = search needs
+
+after-requires-5 : tie.Need-after-requires-5
+after-requires-5 c κs = search needs
+
+after-requires-6 : tie.Need-after-requires-6
+after-requires-6 c κs = search needs
+
+after-requires-7 : tie.Need-after-requires-7
+after-requires-7 c κs = search needs
+
 returns : tie.Need-returns
-unfolding check beforeTag table among
-returns c = simp (c .if1 .taken)
-
-returns-2 : tie.Need-returns-2
-unfolding check beforeTag table among
-returns-2 c = simp (c .before .if1 .left, c .if2 .taken)
-
-returns-3 : tie.Need-returns-3
-unfolding check beforeTag table among
-returns-3 c = simp (c .before .before .if1 .left, c .before .if2 .left, sym (c .before .before .before .is-blank .ensures), c .if3 .taken)
-
-returns-4 : tie.Need-returns-4
-unfolding check beforeTag table among adLimit
-returns-4 c = simp (c .before .before .before .if1 .left, c .before .before .if2 .left, sym (c .before .before .before .before .is-blank .ensures), c .before .if3 .left, c .if4 .taken)
-
-returns-5 : tie.Need-returns-5
-unfolding check beforeTag table among adLimit
-returns-5 c = simp (c .before .before .before .before .if1 .left, c .before .before .before .if2 .left, sym (c .before .before .before .before .before .is-blank .ensures), c .before .before .if3 .left, c .before .if4 .left, c .if5 .taken)
-
-returns-6 : tie.Need-returns-6
-unfolding check beforeTag table among adLimit
-returns-6 c = simp (c .before .before .before .before .before .if1 .left, c .before .before .before .before .if2 .left, sym (c .before .before .before .before .before .before .is-blank .ensures), c .before .before .before .if3 .left, c .before .before .if4 .left, c .before .if5 .left, c .if6 .taken)
-
-returns-7 : tie.Need-returns-7
-unfolding check beforeTag table among adLimit
-returns-7 c = simp (c .before .before .before .before .before .before .if1 .left, c .before .before .before .before .before .if2 .left, sym (c .before .before .before .before .before .before .before .is-blank .ensures), c .before .before .before .before .if3 .left, c .before .before .before .if4 .left, c .before .before .if5 .left, c .before .if6 .left, c .if7 .taken)
-
-returns-8 : tie.Need-returns-8
-unfolding check beforeTag table among adLimit
-returns-8 c = simp (c .before .before .before .before .before .before .if1 .left, c .before .before .before .before .before .if2 .left, sym (c .before .before .before .before .before .before .before .is-blank .ensures), c .before .before .before .before .if3 .left, c .before .before .before .if4 .left, c .before .before .if5 .left, c .before .if6 .left, c .if7 .left)
+unfolding beforeTag table among adLimit
+returns c =
+    let c6 = c .before in
+    let c5 = c6 .before in
+    let c4 = c5 .before in
+    let c3 = c4 .before in
+    let c2 = c3 .before in
+    let c1 = c2 .before in
+    let b = c1 .before in
+    let a = b .before .before .before .before .args in
+    let nonce = row-more NonceSize (c1 .after .ensures) refl (c2 .after2 .ensures) in
+    let blank = row-more BlankKey nonce (b .is-blank .ensures) (c3 .after3 .ensures) in
+    let ad = row-more AdTooLong blank refl (c4 .after4 .ensures) in
+    let long = row-more MessageTooLong ad refl (c5 .after5 .ensures) in
+    let short = row-more SealedTooShort long refl (c6 .after6 .ensures) in
+    row-more OutputTooShort short refl (c .after7 .ensures)
+    ∙ check-in-order (rows (a .key .now) (a .nonce .now) (a .ad .now) (a .too-long) (a .too-short) (a .no-room) false) beforeTag
 
 pub judge-spec : {M : Type 1} → statement M
 judge-spec =
     tie.close
     (tie.spec
     is-blank-requires
-    returns
-    returns-2
-    returns-3
-    returns-4
-    returns-5
-    returns-6
-    returns-7
-    returns-8)
+    after-requires
+    after-requires-2
+    after-requires-3
+    after-requires-4
+    after-requires-5
+    after-requires-6
+    after-requires-7
+    returns)
