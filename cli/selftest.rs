@@ -14,9 +14,9 @@ struct Check {
 }
 
 const PUBLISHED_HEADING: &str = "\
-published vectors of Grain-128AEAD (appendix A of the paper), through seal
-  A call authenticates a coded AD length first, which the published strings lack. So a published
-  tag is checked as the sum of the tags of three strings that sum to the published string.
+published vector 2 of Grain-128AEAD (appendix A of the paper), through seal
+  A call authenticates a coded AD length first, which the published string lacks. So the published
+  tag is checked as the sum of the tags of three strings that sum to that string.
 ";
 
 const BLANK_HEADING: &str = "\
