@@ -15,7 +15,7 @@ use Rattle.refusals.specs.declared.Refusal.the-variants.{KeySize, NonceSize, Ad
 use Rattle.refusals.specs.Refusals.{among}
 use Rattle.refusals.proofs.Rows.{quiet-none, quiet-row}
 use Rattle.startup.specs.Sizes.{keySize, nonceSize}
-use Rattle.startup.specs.BlankKey.{blankKey, isBlank}
+use Rattle.startup.specs.BlankKey.{blankKey}
 use Rattle.startup.proofs.BlankKey.{not-blank, unequal-not-blank}
 use Rattle.payload.specs.Payload.{tag, tagPart}
 use Rattle.grain128aead.specs.Sizes.{adLimit}

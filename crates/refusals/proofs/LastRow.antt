@@ -1,28 +1,24 @@
 -- A row that is tried after all others, as the tag's is.
 -- Assumes nothing.
-use mathlib.Core.Path.{_≡_, refl}
+use mathlib.Core.Path.{_≡_, refl, sym, ap, _∙_}
 use mathlib.Core.Bool.{Bool, true, false, cond}
-use mathlib.Core.List.{List, [], _∷_, _++_}
+use mathlib.Core.List.{List, [], _∷_, _++_, foldl-append}
 use Prim.Native.Nat.{ℕ}
 use Rattle.refusals.specs.declared.Refusal.{Refusal}
 use Rattle.refusals.specs.declared.Check.{Check}
 use Rattle.refusals.specs.declared.Check.the-variants.{Passed, Failed}
 use Rattle.refusals.specs.Refusals.{after, check}
 use Rattle.refusals.specs.Outcome.{settled, refused, success}
+use Rattle.refusals.proofs.Rows.{check-in-order}
 
 pub after-false : (c : Check) (r : Refusal) → after c r false ≡ c
 after-false Passed r = refl
 after-false (Failed q) r = refl
 
 pub check-last : (rs : List Refusal) (r : Refusal) (applies : Refusal → Bool) → check (rs ++ (r ∷ [])) applies ≡ after (check rs applies) r (applies r)
-unfolding check
-check-last [] r applies = refl
-check-last (q ∷ rs) r applies = go (applies q) (check-last rs r applies)
-  where
-    go : (b : Bool) → check (rs ++ (r ∷ [])) applies ≡ after (check rs applies) r (applies r)
-        → cond b (Failed q) (check (rs ++ (r ∷ [])) applies) ≡ after (cond b (Failed q) (check rs applies)) r (applies r)
-    go true e = refl
-    go false e = e
+check-last rs r applies =
+    sym (check-in-order applies (rs ++ (r ∷ []))) ∙ foldl-append _ Passed rs (r ∷ [])
+    ∙ ap (λ (c : Check). after c r (applies r)) (check-in-order applies rs)
 
 pub settled-last : (r : Refusal) (applies : Bool) (written out : List ℕ) → settled (after Passed r applies) written out ≡ cond applies (refused r out) (success written out)
 unfolding settled

@@ -1,6 +1,6 @@
 -- Rows of a call: tried one after the other they come to the first that applies; a refusal that has none among them never applies.
 -- Assumes nothing.
-use mathlib.Core.Path.{_≡_, refl, sym, ap, ap₂, _∙_}
+use mathlib.Core.Path.{_≡_, refl, sym, ap, _∙_}
 use mathlib.Core.Logic.{_⊎_, inl, inr, ⊎-elim}
 use mathlib.Core.Bool.{Bool, true, false, cond}
 use mathlib.Core.List.{List, [], _∷_, map, foldl, List·Memᴰ, List·Memᴰ·head, List·Memᴰ·tail}
@@ -16,10 +16,6 @@ use Rattle.refusals.specs.Demand1.{NoOther}
 -- The rows of a list tried in turn, after some others.
 abbrev pub inOrder : (applies : Refusal → Bool) → Check → List Refusal → Check
 inOrder applies = foldl (λ c r. after c r (applies r))
-
--- One more row, after rows that are known to come to something.
-pub row-more : (r : Refusal) {c c′ d : Check} {b b′ : Bool} → c ≡ c′ → b ≡ b′ → d ≡ after c r b → d ≡ after c′ r b′
-row-more r e f h = h ∙ ap₂ (λ (x : Check) (y : Bool). after x r y) e f
 
 failed-stays : (applies : Refusal → Bool) (q : Refusal) (rs : List Refusal) → inOrder applies (Failed q) rs ≡ Failed q
 failed-stays applies q [] = refl

@@ -11,10 +11,10 @@ enum-told : tie.Need-enum-told
 enum-told c = search needs
 
 returns : tie.Need-returns
-returns c = cc
+returns c = rw (c .before .rows .given .1)
 
 returns-2 : tie.Need-returns-2
-returns-2 c = cc
+returns-2 c = rw (c .before .enum-told .given .1, c .if1 .taken)
 
 returns-3 : tie.Need-returns-3
 returns-3 c = search needs

@@ -1,11 +1,9 @@
 -- `grain128aead::checks::judge` meets its contract.
 -- Assumes nothing.
-use mathlib.Core.Path.{refl, _∙_}
 use mathlib.Core.Bool.{false}
 use borrow.Author.Needs.{needs}
-use Rattle.refusals.specs.declared.Refusal.the-variants.{NonceSize, AdTooLong, MessageTooLong, SealedTooShort, OutputTooShort, BlankKey}
 use Rattle.refusals.specs.Refusals.{among}
-use Rattle.refusals.proofs.Rows.{row-more, check-in-order}
+use Rattle.refusals.proofs.Rows.{check-in-order}
 use Rattle.grain128aead.specs.Sizes.{adLimit}
 use Rattle.grain128aead.specs.Order.{beforeTag}
 use Rattle.grain128aead.specs.Calls.{table, rows}
@@ -47,13 +45,8 @@ returns c =
     let c1 = c2 .before in
     let b = c1 .before in
     let a = b .before .before .before .before .args in
-    let nonce = row-more NonceSize (c1 .after .ensures) refl (c2 .after2 .ensures) in
-    let blank = row-more BlankKey nonce (b .is-blank .ensures) (c3 .after3 .ensures) in
-    let ad = row-more AdTooLong blank refl (c4 .after4 .ensures) in
-    let long = row-more MessageTooLong ad refl (c5 .after5 .ensures) in
-    let short = row-more SealedTooShort long refl (c6 .after6 .ensures) in
-    row-more OutputTooShort short refl (c .after7 .ensures)
-    ∙ check-in-order (rows (a .key .now) (a .nonce .now) (a .ad .now) (a .too-long) (a .too-short) (a .no-room) false) beforeTag
+    rw (c .after7 .ensures, c6 .after6 .ensures, c5 .after5 .ensures, c4 .after4 .ensures, c3 .after3 .ensures, c2 .after2 .ensures, c1 .after .ensures, b .is-blank .ensures)
+    (check-in-order (rows (a .key .now) (a .nonce .now) (a .ad .now) (a .too-long) (a .too-short) (a .no-room) false) beforeTag)
 
 pub judge-spec : {M : Type 1} → statement M
 judge-spec =
