@@ -175,7 +175,7 @@ pub fn blank_key(t: Tally) -> Tally {
     );
     let t2 = tally::line(
         t1,
-        b"with a 13-byte nonce it gives 2",
+        b"with a 13-byte nonce and a long AD it gives 2",
         sealing(&BLANK, 13, AD_LIMIT + 1, 0, 8) == -2,
     );
     let t3 = tally::line(
@@ -185,7 +185,7 @@ pub fn blank_key(t: Tally) -> Tally {
     );
     let t4 = tally::line(
         t3,
-        b"with a sealed input of 7 bytes it gives 15",
+        b"with a long AD and a sealed input of 7 bytes it gives 15",
         opening(&BLANK, AD_LIMIT + 1, 7, 0) == -15,
     );
     let t5 = tally::line(
