@@ -1,14 +1,17 @@
--- The number that bytes spell, one byte after the other.
+-- The number that bytes spell, and the bytes that spell a word, one byte after the other.
 -- Assumes nothing.
-use mathlib.Core.Path.{_≡_, sym, ap, ap₂, _∙_}
+use mathlib.Core.Path.{_≡_, refl, sym, ap, ap₂, _∙_}
 use mathlib.Core.Bool.{Bool}
 use mathlib.Core.List.{List, [], _∷_, _++_, append-nil}
-use Prim.Native.Nat.{ℕ, zero, suc, _+_, _-_, _*_, _/_, _%_, _^_, _<_}
-use native.Mathlib.Nat.{not-suc-le-zero, le-of-suc-le-suc, mul-suc, add-comm, suc-sub-suc, sub-zero, mod-lt, zero-mul, zero-add, add-assoc, add-mul, mul-assoc, mod-mod, mod-eq-of-lt}
+use Prim.Native.Nat.{ℕ, zero, suc, _+_, _-_, _*_, _/_, _%_, _^_, _<_, _≤_}
+use native.Mathlib.Nat.{le-refl, div-one, sub-self, le-of-eq, not-suc-le-zero, le-of-suc-le-suc, mul-suc, add-comm, suc-sub-suc, sub-zero, mod-lt, zero-mul, zero-add, add-assoc, add-mul, mul-assoc, mod-mod, mod-eq-of-lt}
+use native.Mathlib.Numerals.{sub-one}
+use native.Mathlib.Omega.{arith}
 use lib.Bits.{bitOr, or-shifted}
-use lib.Pow.{pow-pos, split, pow-add, high, low, mod-pow-add, mod-mod-pow}
-use lib.ListN.{length, getD, take, drop, length-append}
-use lib.Seq.{take-suc, take-at, drop-at}
+use lib.Pow.{pow-pos, split, pow-add, high, low, mod-pow-add, mod-mod-pow, shr-shr}
+use lib.Dec.{lit≤}
+use lib.ListN.{length, getD, take, drop, set, length-append, length-set}
+use lib.Seq.{take-suc, take-at, drop-at, drop-length, drop-cons, drop-set-lt, getD-set-same}
 use Rattle.bits.specs.Bit.{digit}
 use Rattle.bits.specs.Bytes.{word, value, bits, bytes}
 use Rattle.bits.proofs.Packing.{bits-append, length-bits}
@@ -46,11 +49,17 @@ number-turn s i n b h small eb en =
     ∙ byte-in (value (bits (take i s))) (getD s i 0) small
     ∙ ap (λ (x : ℕ). x % 2 ^ 64) (sym (value-byte s i h small))
 
--- Eight bytes, or four above 32 given bits, as a word.
+-- Up to eight bytes as a word.
+pub spelled : (s : List ℕ) (n : ℕ) → length s ≤ 8 → n ≡ value (bits s) % 2 ^ 64 → word (8 * length s) n ≡ bits s
+spelled s n h e =
+    let whole : 64 ≡ 64 - 8 * length s + 8 * length s = omega arith in
+    ap (word (8 * length s)) (e ∙ ap (λ (k : ℕ). value (bits s) % 2 ^ k) whole)
+    ∙ word-agrees (8 * length s) (value (bits s) % 2 ^ (64 - 8 * length s + 8 * length s)) (value (bits s)) (mod-mod-pow (value (bits s)) (64 - 8 * length s) (8 * length s))
+    ∙ ap (λ (k : ℕ). word k (value (bits s))) (sym (length-bits s)) ∙ word-value (bits s)
+
+-- Eight of them, or four above 32 given bits.
 pub spelled-eight : (s : List ℕ) (n : ℕ) → length s ≡ 8 → n ≡ value (bits s) % 2 ^ 64 → word 64 n ≡ bits s
-spelled-eight s n len e =
-    ap (word 64) e ∙ word-agrees 64 (value (bits s) % 2 ^ 64) (value (bits s)) (mod-mod (value (bits s)) (2 ^ 64))
-    ∙ ap (λ (k : ℕ). word k (value (bits s))) (sym (length-bits s ∙ ap (λ (k : ℕ). 8 * k) len)) ∙ word-value (bits s)
+spelled-eight s n len e = ap (λ (k : ℕ). word (8 * k) n) (sym len) ∙ spelled s n (le-of-eq len) e
 
 pub spelled-four : (s : List ℕ) (n low : ℕ) → length s ≡ 4 → low < 2 ^ 32 → n ≡ value (bits s) % 2 ^ 64 → word 64 (bitOr (n * 2 ^ 32 % 2 ^ 64) low) ≡ bits s ++ word 32 low
 spelled-four s n low len h e =
@@ -58,8 +67,7 @@ spelled-four s n low len h e =
     ∙ ap (word 64) (or-shifted (n % 2 ^ 32) 32 low h)
     ∙ word-append 32 32 (n % 2 ^ 32) low h
     ∙ ap (λ (r : List Bool). r ++ word 32 low)
-    (word-agrees 32 (n % 2 ^ 32) (value (bits s)) (mod-mod n (2 ^ 32) ∙ ap (λ (x : ℕ). x % 2 ^ 32) e ∙ mod-mod-pow (value (bits s)) 32 32)
-    ∙ ap (λ (k : ℕ). word k (value (bits s))) (sym (length-bits s ∙ ap (λ (k : ℕ). 8 * k) len)) ∙ word-value (bits s))
+    (word-agrees 32 (n % 2 ^ 32) n (mod-mod n (2 ^ 32)) ∙ ap (λ (k : ℕ). word (8 * k) n) (sym len) ∙ spelled s n (rw len (lit≤ tt)) e)
 
 -- The bytes of a word, high byte first.
 bytes-word-cons : (n w : ℕ) → bytes (suc n) (word (8 * suc n) w) ≡ (w / 2 ^ (8 * n) % 256) ∷ bytes n (word (8 * n) w)
@@ -87,3 +95,29 @@ bytes-word (suc n) w zero h =
 bytes-word (suc n) w (suc i) h =
     ap (λ (l : List ℕ). getD l (suc i) 0) (bytes-word-cons n w) ∙ bytes-word n w i (le-of-suc-le-suc h)
     ∙ ap (λ (k : ℕ). w / 2 ^ (8 * k) % 256) (sym (suc-sub-suc n (suc i)))
+
+-- From place i on, a string of n bytes has the lowest bytes of a word, and the rest of the word is yet to be spelled.
+abbrev pub Spelling : (w n : ℕ) → List ℕ → (rest i : ℕ) → Type 0
+Spelling w n out rest i = (i ≤ n) × (length out ≡ n) × (rest ≡ w / 2 ^ (8 * (n - i))) × (drop i out ≡ bytes (n - i) (word (8 * (n - i)) w))
+
+pub spelling-none : (w : ℕ) (out : List ℕ) → Spelling w (length out) out w (length out)
+unfolding bytes
+spelling-none w out = rw (sub-self (length out)) (le-refl (length out), refl, sym (div-one w), drop-length out)
+
+pub spelling-turn : (w n : ℕ) (out : List ℕ) (rest i : ℕ) → 0 < i → Spelling w n out rest i → Spelling w n (set out (i - 1) (rest % 256)) (rest / 2 ^ 8) (i - 1)
+spelling-turn w n out rest zero pos h = absurd (not-suc-le-zero pos)
+spelling-turn w n out rest (suc j) pos (le, len, up, done) =
+    let more : n - j ≡ suc (n - suc j) = omega arith in
+    let inside : j < length out = omega arith in
+    rw (sub-one (suc j), more) (
+      omega arith,
+      length-set out j (rest % 256) ∙ len,
+      ap (λ (r : ℕ). r / 2 ^ 8) up ∙ shr-shr w (8 * (n - suc j)) 8 ∙ ap (λ (k : ℕ). w / 2 ^ k) (sym (mul-suc 8 (n - suc j))),
+      drop-cons (set out j (rest % 256)) j 0 (rw length-set inside)
+          ∙ ap₂ _∷_ (getD-set-same out j (rest % 256) 0 inside ∙ ap (λ (r : ℕ). r % 256) up) (drop-set-lt (suc j) out j (rest % 256) (omega arith) ∙ done)
+          ∙ sym (bytes-word-cons (n - suc j) w),
+    )
+
+pub spelling-all : (w n : ℕ) (out : List ℕ) (rest i : ℕ) → i ≤ 0 → Spelling w n out rest i → out ≡ bytes n (word (8 * n) w)
+spelling-all w n out rest zero h (le, len, up, done) = done ∙ ap (λ (k : ℕ). bytes k (word (8 * k) w)) (sub-zero n)
+spelling-all w n out rest (suc i) h whole = absurd (not-suc-le-zero h)

@@ -1,7 +1,8 @@
 // Bits, bytes and words: the layer below the registers. A register's word has its first place in its top bit.
 ghost use mathlib.Core.Path.{_≡_};
-ghost use Prim.Native.Nat.{_%_, _^_};
-ghost use Rattle.bits.specs.Bytes.{word, value, bits, lowest};
+ghost use Prim.Native.Nat.{_*_, _%_, _^_};
+ghost use lib.ListN.{length};
+ghost use Rattle.bits.specs.Bytes.{word, value, bits, bytes, lowest};
 ghost use Rattle.bits.specs.Strings.{shift};
 
 // The word moved one place down, with the lowest bit of `new` in its last place.
@@ -28,4 +29,17 @@ pub fn number(s: &[u8]) -> u64
         i += 1;
     }
     n
+}
+
+// Fills a byte string with the lowest bytes of a word, high byte first; what is above the word's eight bytes is zeros.
+pub fn spell(w: u64, out: &mut [u8])
+    ensures { λ r. ⌜ now (out .exit) ≡ bytes (length (now (out .entry))) (word (8 * length (now (out .entry))) w) ⌝ }
+{
+    let mut rest = w;
+    let mut i = out.len();
+    while 0 < i {
+        i -= 1;
+        out[i] = (rest % 256) as u8;
+        rest = rest >> 8;
+    }
 }
