@@ -7,3 +7,4 @@ pub mod Packing
 pub mod Flip
 pub mod Places
 pub mod Spelling
+pub mod Exchange

@@ -1,4 +1,4 @@
--- The lowest bit keeps sums and products, and tells the remainder by 2.
+-- The lowest bit keeps sums and products, as each bit does, and tells the remainder by 2.
 -- Assumes nothing.
 use mathlib.Core.Path.{_≡_, refl, ap, ap₂, _∙_}
 use mathlib.Core.Bool.{Bool, true, false, _&&_}
@@ -6,10 +6,10 @@ use mathlib.Core.List.{_∷_}
 use Prim.Native.Nat.{ℕ, zero, suc, _/_, _%_, _^_, _<_}
 use native.Mathlib.Nat.{mod-lt}
 use native.Mathlib.Omega.{arith}
-use lib.Bits.{bitXor, bitAnd, xor-mod, and-mod, xor-shr}
+use lib.Bits.{bitXor, bitAnd, xor-mod, and-mod, xor-shr, and-shr}
 use lib.Pow.{pow-pos}
 use Rattle.bits.specs.Bit.{_⊻_, digit}
-use Rattle.bits.specs.Bytes.{isOne, lowest, word}
+use Rattle.bits.specs.Bytes.{isOne, lowest, bit, word}
 use Rattle.bits.specs.Strings.{_⊞_}
 use Rattle.bits.proofs.Word.{digit-isOne}
 
@@ -51,7 +51,13 @@ lowest-other x h = ap isOne (zero-left (x % 2) (mod-lt x (pow-pos 1)) h)
     zero-left : (d : ℕ) → d < 2 → (d ≡ 1 → ⊥) → d ≡ 0
     zero-left d l n = omega arith
 
+pub bit-xor : (k a b : ℕ) → bit k (bitXor a b) ≡ bit k a ⊻ bit k b
+bit-xor k a b = ap lowest (xor-shr a b k) ∙ lowest-xor (a / 2 ^ k) (b / 2 ^ k)
+
+pub bit-and : (k a b : ℕ) → bit k (bitAnd a b) ≡ (bit k a && bit k b)
+bit-and k a b = ap lowest (and-shr a b k) ∙ lowest-and (a / 2 ^ k) (b / 2 ^ k)
+
 pub word-xor : (n a b : ℕ) → word n (bitXor a b) ≡ word n a ⊞ word n b
 unfolding word _⊞_
 word-xor zero a b = refl
-word-xor (suc n) a b = ap₂ _∷_ (ap lowest (xor-shr a b n) ∙ lowest-xor (a / 2 ^ n) (b / 2 ^ n)) (word-xor n a b)
+word-xor (suc n) a b = ap₂ _∷_ (bit-xor n a b) (word-xor n a b)

@@ -1,4 +1,5 @@
 pub mod Bit
 pub mod Bytes
+pub mod Exchange
 pub mod Strings
 pub mod Times

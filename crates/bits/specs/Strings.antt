@@ -22,6 +22,16 @@ zeros n = replicate n false
 abbrev pub shift {ℓ} : {A : Type ℓ} → List A → A → List A
 shift r new = drop 1 r ++ (new ∷ [])
 
+-- Every second place of a string, from the first on.
+unfoldable pub evens {ℓ} : {A : Type ℓ} → List A → List A
+evens [] = []
+evens (a ∷ []) = a ∷ []
+evens (a ∷ b ∷ s) = a ∷ evens s
+
+-- Every second place, from the second on.
+abbrev pub odds {ℓ} : {A : Type ℓ} → List A → List A
+odds s = evens (drop 1 s)
+
 -- The bits of a string by their places; past its end, zeros.
 abbrev pub places : List Bool → ℕ → Bool
 places s i = getD s i false

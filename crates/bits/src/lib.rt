@@ -1,4 +1,6 @@
 // Bits, bytes and words: the layer below the registers. A register's word has its first place in its top bit.
+pub mod parting;
+
 ghost use mathlib.Core.Path.{_≡_};
 ghost use Prim.Native.Nat.{_*_, _%_, _^_};
 ghost use lib.ListN.{length};
