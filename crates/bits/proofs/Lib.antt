@@ -8,3 +8,4 @@ pub mod Flip
 pub mod Places
 pub mod Spelling
 pub mod Exchange
+pub mod Evens
