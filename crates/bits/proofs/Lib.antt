@@ -9,3 +9,4 @@ pub mod Places
 pub mod Spelling
 pub mod Exchange
 pub mod Evens
+pub mod Moved
