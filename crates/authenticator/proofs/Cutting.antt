@@ -7,15 +7,14 @@ use Prim.Native.Nat.{ℕ, suc, _-_, _<_}
 use native.Mathlib.Omega.{arith}
 use lib.ListN.{drop, length-drop}
 use Rattle.bits.specs.Bytes.{word}
-use Rattle.bits.specs.Strings.{_⊞_}
 use Rattle.bits.proofs.Shift.{drop-shift}
 use Rattle.bits.proofs.Sum.{drop-sum, drop-zeros}
 use Rattle.bits.proofs.Word.{word-drop}
 use Rattle.authenticator.specs.Authenticator.{Authenticator, Sized, add, move, absorb, absorbAll}
-use Rattle.authenticator.specs.ClosedForm.{registersAt}
 use Rattle.authenticator.specs.Words.{authenticatorOf}
 use Rattle.authenticator.specs.Cutting.{cut, Cutting, CutSums, CutWords}
 use Rattle.authenticator.proofs.ClosedForm.{add-sized, absorb-sized}
+use Rattle.authenticator.proofs.Linear.{registersAt-map}
 
 cut-add : (k : ℕ) (a : Authenticator) (m : Bool) → cut k (add a m) ≡ add (cut k a) m
 unfolding cut add
@@ -55,10 +54,7 @@ module _ (k w : ℕ) (left : k < w) where
   }
 
 pub cut-sums : CutSums
-unfolding registersAt
-cut-sums k w R i [] = drop-zeros k w
-cut-sums k w R i (true ∷ s) = drop-sum k (R i) (registersAt w R (suc i) s) ∙ ap (λ (r : List Bool). drop k (R i) ⊞ r) (cut-sums k w R (suc i) s)
-cut-sums k w R i (false ∷ s) = cut-sums k w R (suc i) s
+cut-sums k w = registersAt-map w (w - k) (drop k) (drop-zeros k w) (drop-sum k)
 
 pub cut-words : CutWords
 unfolding cut authenticatorOf

@@ -1,10 +1,11 @@
--- The registers at the 1 bits of a string add up linearly: over sums, over joins and over zeros.
+-- The registers at the 1 bits of a string add up linearly: over sums, over joins, over zeros, and under maps that keep sums.
 -- Assumes nothing.
 use mathlib.Core.Path.{_≡_, refl, sym, ap, ap₂, _∙_}
 use mathlib.Core.Bool.{Bool, true, false}
 use mathlib.Core.List.{List, [], _∷_, _++_}
-use Prim.Native.Nat.{ℕ, zero, suc, _+_}
+use Prim.Native.Nat.{ℕ, zero, suc, _+_, _<_}
 use native.Mathlib.Nat.{le-of-eq, zero-add, add-zero, add-suc, suc-add}
+use native.Mathlib.Omega.{arith}
 use lib.ListN.{length, length-replicate}
 use Rattle.bits.specs.Strings.{_⊞_, zeros}
 use Rattle.bits.proofs.Sum.{sum-comm, sum-assoc, sum-left-comm, sum-zeros, sum-twice, length-sum}
@@ -16,6 +17,37 @@ unfolding registersAt
 registersAt-suc w R i [] = refl
 registersAt-suc w R i (true ∷ s) = ap (λ (r : List Bool). R (suc i) ⊞ r) (registersAt-suc w R (suc i) s)
 registersAt-suc w R i (false ∷ s) = registersAt-suc w R (suc i) s
+
+-- So does counting from k positions further.
+pub registersAt-from : (w : ℕ) (R : ℕ → List Bool) (k : ℕ) (s : List Bool) → registersAt w R k s ≡ registersAt w (λ j. R (j + k)) 0 s
+registersAt-from w R zero s = λ p. registersAt w (λ j. R (sym (add-zero j) p)) 0 s
+registersAt-from w R (suc k) s =
+    sym (registersAt-suc w R k s) ∙ registersAt-from w (λ j. R (suc j)) k s ∙ (λ p. registersAt w (λ j. R (sym (add-suc j k) p)) 0 s)
+
+-- A map of strings that keeps sums and zeros takes the sum of registers to the sum of what it makes of each.
+pub registersAt-map : (w v : ℕ) (f : List Bool → List Bool) → f (zeros w) ≡ zeros v → ((s t : List Bool) → f (s ⊞ t) ≡ f s ⊞ f t)
+    → (R : ℕ → List Bool) (i : ℕ) (s : List Bool) → f (registersAt w R i s) ≡ registersAt v (λ j. f (R j)) i s
+unfolding registersAt
+registersAt-map w v f none keeps R i [] = none
+registersAt-map w v f none keeps R i (true ∷ s) =
+    keeps (R i) (registersAt w R (suc i) s) ∙ ap (λ (r : List Bool). f (R i) ⊞ r) (registersAt-map w v f none keeps R (suc i) s)
+registersAt-map w v f none keeps R i (false ∷ s) = registersAt-map w v f none keeps R (suc i) s
+
+-- Registers that are sums add up to the sum of what their parts add up to.
+pub registersAt-plus : (w : ℕ) (T R S : ℕ → List Bool) (i : ℕ) (s : List Bool)
+    → ((j : ℕ) → j < i + length s → T j ≡ R j ⊞ S j) → registersAt w T i s ≡ registersAt w R i s ⊞ registersAt w S i s
+unfolding registersAt
+registersAt-plus w T R S i [] e = sym (sum-zeros (zeros w) w (le-of-eq (sym (length-replicate w false))))
+registersAt-plus w T R S i (true ∷ s) e =
+    ap₂ _⊞_ (e i (omega arith)) (registersAt-plus w T R S (suc i) s (λ j h. e j (omega arith))) ∙ sum-assoc (R i) (S i) (A ⊞ B)
+    ∙ ap (λ (r : List Bool). R i ⊞ r) (sum-left-comm (S i) A B) ∙ sym (sum-assoc (R i) A (S i ⊞ B))
+  where
+    A : List Bool
+    A = registersAt w R (suc i) s
+
+    B : List Bool
+    B = registersAt w S (suc i) s
+registersAt-plus w T R S i (false ∷ s) e = registersAt-plus w T R S (suc i) s (λ j h. e j (omega arith))
 
 pub registersAt-zeros : (w : ℕ) (R : ℕ → List Bool) (i n : ℕ) → registersAt w R i (zeros n) ≡ zeros w
 unfolding registersAt

@@ -1,4 +1,6 @@
 // The authenticator: the accumulator and its register, on words.
+mod products;
+
 ghost use mathlib.Core.Path.{_≡_};
 ghost use Rattle.bits.specs.Bytes.{lowest, word};
 ghost use Rattle.bits.specs.Strings.{places};
@@ -40,4 +42,17 @@ pub fn absorb_byte(t: Tagger, m: u64, new: u64) -> Tagger
         now = absorb(now, m >> left, new >> left);
     }
     now
+}
+
+// The 32 lowest bits of `m`, the highest first; the register takes those of `new`.
+pub fn absorb_word(t: Tagger, m: u64, new: u64) -> Tagger
+    ensures { λ r. ⌜ authenticatorOf r ≡ authenticator.absorbAll (authenticatorOf t) (word 32 m) (places (word 32 new)) ⌝ }
+{
+    let low = new % 0x1_0000_0000;
+    Tagger {
+        accumulator: t.accumulator
+            ^ products::product(t.register, m)
+            ^ (products::product(low, m) >> 32),
+        register: (t.register << 32) | low,
+    }
 }
