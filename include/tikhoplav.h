@@ -14,9 +14,9 @@
  *   run at the same time in any number of threads, as long as nobody writes to a buffer that a running call reads, or
  *   touches one that it writes.
  *
- *   A call takes at most 1 KiB of stack below its caller's frame. This is measured, up to the largest lengths, and not
- *   proved: 976 bytes, with the memcpy of the GNU C library. Where memcpy stands in a shared library and is bound at
- *   its first use, the dynamic linker takes stack of its own in that one call (about 3 KiB more on Linux).
+ *   A call takes at most 1536 bytes of stack below its caller's frame. This is measured, up to the largest lengths, and
+ *   not proved: 1272 bytes, with the memcpy of the GNU C library. Where memcpy stands in a shared library and is bound
+ *   at its first use, the dynamic linker takes stack of its own in that one call (about 3 KiB more on Linux).
  *
  * What the caller owes
  *
@@ -58,8 +58,8 @@
  *
  * What is not promised
  *
- *   How long a call takes. It grows with the lengths, and opening goes over the ciphertext twice. Nor does a call wipe
- *   the stack that it has used.
+ *   How long a call takes. It grows with the lengths, and opening goes over the ciphertext twice; the tag is made by
+ *   look-ups in a small table, at places that depend on the message. Nor does a call wipe the stack that it has used.
  *
  * Example: a whole program (a real key is random and secret)
  *
@@ -89,7 +89,7 @@
 extern "C" {
 #endif
 
-#define TIKHOPLAV_VERSION "3.0.0"
+#define TIKHOPLAV_VERSION "3.1.0"
 
 /* Sizes in bytes. A key and a nonce have exactly these; a sealed payload ends with exactly such a tag. */
 #define TIKHOPLAV_KEY_SIZE 16

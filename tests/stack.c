@@ -7,7 +7,7 @@
 #include <tikhoplav.h>
 
 /* What the header says. */
-enum { ENOUGH = 1024 };
+enum { ENOUGH = 1536 };
 
 enum { STACK_SIZE = 1 << 16, PATTERN = 0xa5 };
 

@@ -3,21 +3,16 @@
 use mathlib.Core.Path.{_≡_, refl, sym, ap, _∙_}
 use mathlib.Core.Bool.{Bool, true, false, cond}
 use mathlib.Core.List.{List, [], _∷_}
-use Prim.Native.Nat.{ℕ, zero, suc, suc-le-suc, _<_}
+use Prim.Native.Nat.{ℕ, suc, suc-le-suc, _<_}
 use native.Mathlib.Omega.{arith}
 use native.Mathlib.Nat.{le-of-eq}
 use lib.ListN.{length}
-use Rattle.bits.specs.Strings.{_⊞_, shift}
+use Rattle.bits.specs.Strings.{_⊞_}
 use Rattle.bits.proofs.Shift.{length-shift}
 use Rattle.bits.proofs.Sum.{sum-assoc, sum-zeros, length-sum}
 use Rattle.authenticator.specs.Authenticator.{Authenticator, Sized, add, move, absorb, absorbAll, registerAfter}
 use Rattle.authenticator.specs.ClosedForm.{ClosedForm, Independent, registersAt}
 use Rattle.authenticator.proofs.Linear.{registersAt-suc}
-
-pub length-registerAfter : (w : ℕ) (r : List Bool) (new : ℕ → Bool) → 0 < w → length r ≡ w → (i : ℕ) → length (registerAfter r new i) ≡ w
-unfolding registerAfter
-length-registerAfter w r new pos e zero = e
-length-registerAfter w r new pos e (suc i) = length-registerAfter w (shift r (new 0)) (λ j. new (suc j)) pos (length-shift w r (new 0) pos e) i
 
 -- Whichever of two strings of w places is picked has w places.
 cond-sized : (w : ℕ) (b : Bool) (s t : List Bool) → length s ≡ w → length t ≡ w → length (cond b s t) ≡ w

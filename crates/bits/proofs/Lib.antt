@@ -5,8 +5,9 @@ pub mod Word
 pub mod Lowest
 pub mod Packing
 pub mod Flip
-pub mod Places
 pub mod Spelling
 pub mod Exchange
 pub mod Evens
 pub mod Moved
+pub mod Written
+pub mod Slides

@@ -4,16 +4,17 @@ use mathlib.Core.Path.{_≡_, refl, sym, ap, ap₂, _∙_}
 use mathlib.Core.Bool.{Bool}
 use mathlib.Core.List.{List, [], _∷_, _++_, append-nil}
 use Prim.Native.Nat.{ℕ, zero, suc, _+_, _-_, _*_, _/_, _%_, _^_, _<_, _≤_}
-use native.Mathlib.Nat.{le-refl, div-one, sub-self, le-of-eq, not-suc-le-zero, le-of-suc-le-suc, mul-suc, add-comm, suc-sub-suc, sub-zero, mod-lt, zero-mul, zero-add, add-assoc, add-mul, mul-assoc, mod-mod, mod-eq-of-lt}
+use native.Mathlib.Nat.{le-refl, div-one, sub-self, le-of-eq, not-suc-le-zero, le-of-suc-le-suc, mul-suc, add-comm, suc-sub-suc, sub-zero, zero-mul, zero-add, add-assoc, add-mul, mul-assoc, mod-eq-of-lt}
 use native.Mathlib.Numerals.{sub-one}
 use native.Mathlib.Omega.{arith}
 use lib.Bits.{bitOr, or-shifted}
-use lib.Pow.{pow-pos, split, pow-add, high, low, mod-pow-add, mod-mod-pow, shr-shr}
+use lib.Pow.{pow-add, high, low, mod-pow-add, mod-mod-pow, shr-shr}
 use lib.Dec.{lit≤}
 use lib.ListN.{length, getD, take, drop, set, length-append, length-set}
 use lib.Seq.{take-suc, take-at, drop-at, drop-length, drop-cons, drop-set-lt, getD-set-same}
 use Rattle.bits.specs.Bit.{digit}
 use Rattle.bits.specs.Bytes.{word, value, bits, bytes}
+use Rattle.bits.proofs.Moved.{word-split, word-or}
 use Rattle.bits.proofs.Packing.{bits-append, length-bits}
 use Rattle.bits.proofs.Word.{value-word, word-value, word-agrees, word-append, length-word, shl-mod}
 
@@ -63,11 +64,8 @@ spelled-eight s n len e = ap (λ (k : ℕ). word (8 * k) n) (sym len) ∙ spelle
 
 pub spelled-four : (s : List ℕ) (n low : ℕ) → length s ≡ 4 → low < 2 ^ 32 → n ≡ value (bits s) % 2 ^ 64 → word 64 (bitOr (n * 2 ^ 32 % 2 ^ 64) low) ≡ bits s ++ word 32 low
 spelled-four s n low len h e =
-    ap (λ (x : ℕ). word 64 (bitOr x low)) (shl-mod 32 32 n)
-    ∙ ap (word 64) (or-shifted (n % 2 ^ 32) 32 low h)
-    ∙ word-append 32 32 (n % 2 ^ 32) low h
-    ∙ ap (λ (r : List Bool). r ++ word 32 low)
-    (word-agrees 32 (n % 2 ^ 32) n (mod-mod n (2 ^ 32)) ∙ ap (λ (k : ℕ). word (8 * k) n) (sym len) ∙ spelled s n (rw len (lit≤ tt)) e)
+    word-or 32 32 n low h ∙ word-append 32 32 n low h
+    ∙ ap (λ (r : List Bool). r ++ word 32 low) (ap (λ (k : ℕ). word (8 * k) n) (sym len) ∙ spelled s n (rw len (lit≤ tt)) e)
 
 -- The bytes of a word, high byte first.
 bytes-word-cons : (n w : ℕ) → bytes (suc n) (word (8 * suc n) w) ≡ (w / 2 ^ (8 * n) % 256) ∷ bytes n (word (8 * n) w)
@@ -83,10 +81,7 @@ bytes-word-cons n w =
     eight = length-word 8 (w / 2 ^ (8 * n))
 
     split-word : word (8 * suc n) w ≡ top ++ word (8 * n) w
-    split-word =
-        ap₂ word (mul-suc 8 n ∙ add-comm (8 * n) 8) (sym (split w (8 * n)))
-        ∙ word-append 8 (8 * n) (w / 2 ^ (8 * n)) (w % 2 ^ (8 * n)) (mod-lt w (pow-pos (8 * n)))
-        ∙ ap (λ (r : List Bool). top ++ r) (word-agrees (8 * n) (w % 2 ^ (8 * n)) w (mod-mod w (2 ^ (8 * n))))
+    split-word = ap (λ (k : ℕ). word k w) (mul-suc 8 n ∙ add-comm (8 * n) 8) ∙ word-split 8 (8 * n) w
 
 pub bytes-word : (n w i : ℕ) → i < n → getD (bytes n (word (8 * n) w)) i 0 ≡ w / 2 ^ (8 * (n - suc i)) % 256
 bytes-word zero w i h = absurd (not-suc-le-zero h)

@@ -2,9 +2,8 @@
 -- Assumes nothing.
 use mathlib.Core.Path.{_≡_, refl, sym, ap, _∙_}
 use mathlib.Core.List.{List, [], _∷_, _++_}
-use Prim.Native.Nat.{ℕ, zero, suc, _+_, _-_, _<_, _≤_}
-use native.Mathlib.Nat.{zero-add, suc-add, not-suc-le-zero}
-use native.Mathlib.Numerals.{sub-one}
+use Prim.Native.Nat.{ℕ, zero, suc, _+_}
+use native.Mathlib.Nat.{zero-add, suc-add}
 use lib.ListN.{replicate}
 use Rattle.bits.specs.Times.{times, inTurn}
 
@@ -19,18 +18,6 @@ module _ {A : Type 0} (f : A → A) where
   unfolding times
   times-add zero n a = ap (λ (k : ℕ). times k f a) (sym (zero-add n))
   times-add (suc m) n a = times-add m n (f a) ∙ ap (λ (k : ℕ). times k f a) (sym (suc-add m n))
-
-  -- One turn of a loop that counts down: what is left to do comes to the same.
-  pub times-less : (left : ℕ) {a b target : A} → 0 < left → b ≡ f a → times left f a ≡ target → times (left - 1) f b ≡ target
-  unfolding times
-  times-less zero pos e whole = absurd (not-suc-le-zero pos)
-  times-less (suc n) {target = target} pos e whole = rw (sub-one (suc n)) (ap (times n f) e ∙ whole)
-
-  -- Its end.
-  pub times-none : (left : ℕ) {a target : A} → left ≤ 0 → times left f a ≡ target → a ≡ target
-  unfolding times
-  times-none zero h whole = whole
-  times-none (suc n) h whole = absurd (not-suc-le-zero h)
 
 pub inTurn-append : {A : Type 0} (fs gs : List (A → A)) (a : A) → inTurn (fs ++ gs) a ≡ inTurn gs (inTurn fs a)
 unfolding inTurn

@@ -20,10 +20,6 @@ unfolding word
 length-word zero x = refl
 length-word (suc n) x = ap suc (length-word n x)
 
-digit-bound : (b : Bool) → digit b < 2
-digit-bound true = omega arith
-digit-bound false = omega arith
-
 isOne-digit : (b : Bool) → isOne (digit b % 2) ≡ b
 isOne-digit true = refl
 isOne-digit false = refl

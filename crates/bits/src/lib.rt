@@ -3,7 +3,8 @@ pub mod parting;
 
 ghost use mathlib.Core.Path.{_≡_};
 ghost use Prim.Native.Nat.{_*_, _%_, _^_};
-ghost use lib.ListN.{length};
+ghost use mathlib.Core.List.{_++_};
+ghost use lib.ListN.{length, take, drop};
 ghost use Rattle.bits.specs.Bytes.{word, value, bits, bytes, lowest};
 ghost use Rattle.bits.specs.Strings.{shift};
 
@@ -12,6 +13,14 @@ pub fn shift_in(places: u64, new: u64) -> u64
     ensures { λ r. ⌜ word 64 r ≡ shift (word 64 places) (lowest new) ⌝ }
 {
     (places << 1) | (new % 2)
+}
+
+// Sixty-four places of two words that follow one another, from place n on; n counts modulo 64.
+pub fn slide(word0: u64, word1: u64, n: usize) -> u64
+    ensures { λ r. ⌜ word 64 r ≡ drop (n % 64) (word 64 word0) ++ take (n % 64) (word 64 word1) ⌝ }
+{
+    let k = n & 63;
+    (word0 << k) | ((word1 >> 1) >> (63 - k))
 }
 
 pub fn wide(x: u8) -> u64

@@ -2,14 +2,14 @@
 -- Assumes nothing.
 use mathlib.Core.Path.{_≡_, refl, sym, ap, ap₂, _∙_}
 use mathlib.Core.Bool.{Bool, true, false, cond}
-use mathlib.Core.List.{List, [], _∷_, _++_}
+use mathlib.Core.List.{List, [], _∷_, _++_, append-assoc}
 use Prim.Native.Nat.{ℕ, _+_, _-_, _%_, _^_, _≤_, _<_}
 use native.Mathlib.Nat.{mod-eq-of-lt, mod-mod}
 use native.Mathlib.Omega.{arith}
 use borrow.Author.Tests.{ltb-false}
 use lib.Dec.{ltb}
 use lib.ListN.{length, take, drop}
-use lib.Seq.{paste, take-at, drop-at, take-all, drop-drop}
+use lib.Seq.{take-at, drop-at, take-all, drop-drop}
 use Rattle.bits.specs.Bytes.{Bytes, word, value, bits, bytes, same}
 use Rattle.bits.proofs.Packing.{bytes-bits, bits-bytes, Bytes-drop}
 use Rattle.bits.proofs.Spelling.{spelled-eight}
@@ -23,15 +23,18 @@ use Rattle.refusals.specs.Refusals.{after}
 use Rattle.refusals.specs.Outcome.{outcome, refused, success, settled}
 use Rattle.refusals.proofs.Demand1.{decides}
 use Rattle.refusals.proofs.LastRow.{settled-last}
+use Rattle.preoutput.specs.Words.{generatorOf}
 use Rattle.machine.specs.declared.engine.Engine.{Engine}
 use Rattle.machine.specs.Machine.{State, run, crypt, decipher}
-use Rattle.machine.specs.Engine.{stateOf, CryptsAll}
+use Rattle.machine.specs.Engine.{stateOf, withKeystream}
+use Rattle.strings.specs.Strings.{CryptsAll}
 use Rattle.machine.proofs.Machine.{run-append}
+use Rattle.machine.proofs.ByteStrings.{crypted-bytes}
 use Rattle.startup.specs.StartUp.{initialised}
 use Rattle.payload.specs.Sizes.{tagSize}
 use Rattle.payload.specs.AuthenticatedString.{header, authenticated}
 use Rattle.payload.specs.Payload.{begun, ciphertext, deciphered, tag, payload, ciphertextPart, tagPart}
-use Rattle.payload.proofs.Payload.{parts, length-ciphertextPart, length-ciphertext, length-payload, length-tag, length-deciphered, deciphered-bits, tagPart-is}
+use Rattle.payload.proofs.Payload.{parts, length-ciphertextPart, length-ciphertext, length-payload, length-deciphered, deciphered-bits, tagPart-is}
 use Rattle.grain128aead.specs.Sizes.{messageLimit}
 use Rattle.grain128aead.specs.Order.{order}
 use Rattle.grain128aead.specs.Calls.{rows, sealed, recovered, tagDiffers, opened}
@@ -63,10 +66,10 @@ module _ (key nonce ad message : List ℕ) where
   -- The output after sealing: the ciphertext was written, then the tag behind it.
   pub sealed-output : (lent out written : List ℕ) → length message + tagSize ≤ length lent
       → out ≡ ciphertext key nonce ad message ++ drop (length message) lent
-      → written ≡ paste out (length message) (tag key nonce ad message) 8
+      → written ≡ take (length message) out ++ (tag key nonce ad message ++ drop 8 (drop (length message) out))
       → outcome (Count (length message + tagSize)) written ≡ success (payload key nonce ad message) lent
   unfolding payload
-  sealed-output lent out written room first second = ap₂ outcome (ap Count (sym (length-payload key nonce ad message))) (second ∙ pasted)
+  sealed-output lent out written room first second = ap₂ outcome (ap Count (sym (length-payload key nonce ad message))) (second ∙ both)
     where
       c : List ℕ
       c = ciphertext key nonce ad message
@@ -77,12 +80,12 @@ module _ (key nonce ad message : List ℕ) where
       behind : drop (length message) out ≡ drop (length message) lent
       behind = ap (drop (length message)) first ∙ drop-at c (drop (length message) lent) (length message) (length-ciphertext key nonce ad message)
 
-      pasted : paste out (length message) t 8 ≡ c ++ t ++ drop (length (c ++ t)) lent
-      pasted =
-          ap₂ (λ (x y : List ℕ). x ++ take 8 t ++ y)
+      both : take (length message) out ++ (t ++ drop 8 (drop (length message) out)) ≡ c ++ t ++ drop (length (c ++ t)) lent
+      both =
+          ap₂ (λ (x y : List ℕ). x ++ (t ++ y))
           (ap (take (length message)) first ∙ take-at c (drop (length message) lent) (length message) (length-ciphertext key nonce ad message))
-          (sym (drop-drop 8 (length message) out) ∙ ap (drop 8) behind ∙ drop-drop 8 (length message) lent ∙ ap (λ (k : ℕ). drop k lent) (sym (length-payload key nonce ad message)))
-          ∙ ap (λ (x : List ℕ). c ++ x ++ drop (length (c ++ t)) lent) (take-all 8 t (omega (arith, length-tag key nonce ad message)))
+          (ap (drop 8) behind ∙ drop-drop 8 (length message) lent ∙ ap (λ (k : ℕ). drop k lent) (sym (length-payload key nonce ad message)))
+          ∙ sym (append-assoc c t (drop (length (c ++ t)) lent))
 
 -- The received tag is the computed one exactly when their words are the same number.
 module _ (received : List ℕ) (computed : List Bool) (r n : ℕ) (eight : length received ≡ 8) (isBytes : Bytes received)
@@ -119,17 +122,17 @@ module _ {key nonce ad message lent : List ℕ} {c : Check} (checks : SealChecke
     pub seal-room : length message + tagSize ≤ length lent
     seal-room = ltb-false (length lent) (length message + tagSize) (seal-clear .room)
 
-    pub seal-passed : (b done : Engine) (t : ℕ) {out written : List ℕ} → stateOf b ≡ begun key nonce ad → CryptsAll true (stateOf b) (take (length lent) message) lent out done
-        → word 64 t ≡ run (stateOf done) (true ∷ []) .authenticator .accumulator → written ≡ paste out (length message) (bytes 8 (word 64 t)) 8
+    pub seal-passed : (b done : Engine) (t : ℕ) {out written : List ℕ} → stateOf b ≡ begun key nonce ad → CryptsAll true true (stateOf b) (take (length lent) message) lent out done
+        → word 64 t ≡ run (stateOf done) (true ∷ []) .authenticator .accumulator → written ≡ take (length message) out ++ (bytes 8 (word 64 t) ++ drop 8 (drop (length message) out))
         → outcome (Count (length message + tagSize)) written ≡ sealed key nonce ad message lent
     unfolding ciphertext settled
     seal-passed b done t {out} {written} began crypted tagged stored =
         sealed-output key nonce ad message lent out written seal-room
         (whole .written ∙ ap (λ (st : State). bytes (length message) (crypt true st (bits message)) ++ drop (length message) lent) began)
-        (stored ∙ ap (λ (s : List ℕ). paste out (length message) s 8) (tag-word key nonce ad message (stateOf done) t (whole .engine ∙ ap (λ (st : State). run st (bits message)) began) tagged))
+        (stored ∙ ap (λ (s : List ℕ). take (length message) out ++ (s ++ drop 8 (drop (length message) out))) (tag-word key nonce ad message (stateOf done) t (whole .engine ∙ ap (λ (st : State). run st (bits message)) began) tagged))
         ∙ sym (sealed-settled key nonce ad message lent ∙ ap (λ (d : Check). settled d (payload key nonce ad message) lent) (sym (checks .checked) ∙ e))
       where
-        whole : CryptsAll true (stateOf b) message lent out done
+        whole : CryptsAll true true (stateOf b) message lent out done
         whole = rw (take-all (length lent) message (omega (arith, seal-room))) at crypted
 
 -- ---- opening
@@ -186,17 +189,20 @@ module _ {key nonce ad input lent : List ℕ} {c : Check} (checks : OpenChecked 
       tag-bytes : Bytes (tagPart input)
       tag-bytes = rw (tagPart-is input open-reaches) (Bytes-drop (length input - tagSize) input (words .isBytes))
 
-      pub open-passed : {last : Engine} {out : List ℕ} → r ≡ n → CryptsAll false (stateOf b) (take (length lent) (ciphertextPart input)) lent out last → outcome (Count (length input - tagSize)) out ≡ opened key nonce ad input lent
-      unfolding recovered deciphered
-      open-passed {last} {out} same crypted =
-          ap₂ outcome (ap Count counted) (whole .written ∙ ap₂ (λ (st : State) (k : ℕ). bytes (length part) (decipher st (bits part)) ++ drop k lent) (words .began) (sym (length-deciphered key nonce ad part)))
+      pub open-passed : {out : List ℕ} → r ≡ n → out ≡ withKeystream (generatorOf (b .registers)) (take (length lent) (ciphertextPart input)) ++ drop (length (take (length lent) (ciphertextPart input))) lent
+          → outcome (Count (length input - tagSize)) out ≡ opened key nonce ad input lent
+      unfolding recovered deciphered stateOf
+      open-passed {out} same added =
+          ap₂ outcome (ap Count counted)
+          (whole ∙ ap (λ (l : List ℕ). l ++ drop (length part) lent) (sym (crypted-bytes (stateOf b) false part))
+          ∙ ap₂ (λ (st : State) (k : ℕ). bytes (length part) (decipher st (bits part)) ++ drop k lent) (words .began) (sym (length-deciphered key nonce ad part)))
           ∙ sym (by-tag false (authentic-tag key nonce ad input (same-number (tagPart input) (word 64 r) r n eight tag-bytes (length-word 64 r) (words .small) (words .spelled) refl same ∙ computed)))
         where
           part : List ℕ
           part = ciphertextPart input
 
-          whole : CryptsAll false (stateOf b) part lent out last
-          whole = rw (take-all (length lent) part (omega (arith, length-ciphertextPart input open-reaches, open-room))) at crypted
+          whole : out ≡ withKeystream (generatorOf (b .registers)) part ++ drop (length part) lent
+          whole = rw (take-all (length lent) part (omega (arith, length-ciphertextPart input open-reaches, open-room))) at added
 
           counted : length input - tagSize ≡ length (recovered key nonce ad input)
           counted = sym (length-deciphered key nonce ad part ∙ length-ciphertextPart input open-reaches)

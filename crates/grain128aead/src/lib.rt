@@ -1,7 +1,6 @@
 // Grain-128AEAD, first edition: sealing and opening of whole byte strings.
 mod checks;
 pub mod limits;
-mod tag;
 
 ghost use mathlib.Core.Path.{_≡_};
 ghost use lib.ListN.{length};
@@ -17,7 +16,6 @@ ghost use Rattle.grain128aead.specs.Substitution.{Substitution};
 use limits::MESSAGE_LIMIT;
 use machine::engine;
 use machine::engine::Engine;
-use machine::strings;
 use refusals::Answer;
 use refusals::Check;
 use refusals::Refusal;
@@ -47,9 +45,10 @@ pub fn seal(key: &[u8], nonce: &[u8], ad: &[u8], message: &[u8], out: &mut [u8])
         Check::Failed(r) => Answer::Refused(r),
         Check::Passed => {
             let begun = begin(key, nonce, ad);
-            let done = strings::crypt_all(begun, message, out, true);
-            tag::store(out, n, engine::finish(done));
-            Answer::Count(n + 8)
+            let done = strings::encipher_all(begun, message, out);
+            let end = n + 8;
+            bits::spell(engine::finish(done), &mut out[n..end]);
+            Answer::Count(end)
         }
     }
 }
@@ -73,7 +72,7 @@ pub fn open(key: &[u8], nonce: &[u8], ad: &[u8], input: &[u8], out: &mut [u8]) -
             let begun = begin(key, nonce, ad);
             let done = strings::decipher_all(begun, ciphertext);
             if engine::finish(done) == bits::number(payload::parts::tag_part(input)) {
-                strings::crypt_all(begun, ciphertext, out, false);
+                strings::add_keystream(begun.registers, ciphertext, out);
                 Answer::Count(n - 8)
             } else {
                 Answer::Refused(Refusal::TagDiffers)

@@ -11,7 +11,8 @@ use Rattle.bits.proofs.Packing.{length-bits, bits-bytes}
 use Rattle.bits.proofs.Flip.{length-flip, flip-twice}
 use Rattle.preoutput.specs.Algebra.{single}
 use Rattle.preoutput.specs.Generator.{everySecond}
-use Rattle.preoutput.proofs.Streams.{length-everySecond}
+use Rattle.preoutput.proofs.EverySecond.{length-everySecond}
+use Rattle.machine.specs.Engine.{withKeystream}
 use Rattle.machine.specs.Machine.{State, crypt}
 use Rattle.machine.proofs.Machine.{crypt-sum, length-crypt}
 use Rattle.machine.proofs.OverBytes.{cryptBytes}
@@ -30,11 +31,15 @@ module _ (st : State) where
   unfolding cryptBytes
   bits-cryptBytes sealing s = bits-bytes (length s) (crypt sealing st (bits s)) (length-crypt sealing st (bits s) ∙ length-bits s)
 
-  -- They are the bytes that go in, flipped by the keystream.
+  -- They are the bytes that go in, with the keystream added.
+  pub crypted-bytes : (sealing : Bool) (s : List ℕ) → bytes (length s) (crypt sealing st (bits s)) ≡ withKeystream (st .generator) s
+  crypted-bytes sealing s =
+      ap (bytes (length s)) (crypt-sum sealing st (bits s) ∙ ap (λ (n : ℕ). bits s ⊞ everySecond single n (st .generator)) (length-bits s))
+
+  -- That is, flipped by it.
   pub cryptBytes-flip : (sealing : Bool) (s : List ℕ) → cryptBytes sealing st s ≡ flip s (keystreamUnder (length s))
   unfolding cryptBytes flip keystreamUnder
-  cryptBytes-flip sealing s =
-      ap (bytes (length s)) (crypt-sum sealing st (bits s) ∙ ap (λ (n : ℕ). bits s ⊞ everySecond single n (st .generator)) (length-bits s))
+  cryptBytes-flip sealing s = crypted-bytes sealing s
 
   -- So that twice gives them back, whichever way each goes.
   pub cryptBytes-twice : (first second : Bool) (s : List ℕ) → Bytes s → cryptBytes second st (cryptBytes first st s) ≡ s

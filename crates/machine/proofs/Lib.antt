@@ -2,6 +2,6 @@ pub mod Machine
 pub mod Clocks
 pub mod Accumulator
 pub mod Cutting
-pub mod Bytewise
+pub mod Bitwise
 pub mod OverBytes
 pub mod ByteStrings

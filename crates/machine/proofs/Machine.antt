@@ -13,7 +13,7 @@ use Rattle.bits.proofs.Sum.{length-sum}
 use Rattle.preoutput.specs.Algebra.{single}
 use Rattle.preoutput.specs.Generator.{Generator, preoutput, plain, everySecond}
 use Rattle.preoutput.proofs.Sizes.{clock-sized}
-use Rattle.preoutput.proofs.Streams.{length-everySecond}
+use Rattle.preoutput.proofs.EverySecond.{length-everySecond}
 use Rattle.authenticator.specs.Authenticator.{Authenticator, absorbAll, registerAfter}
 use Rattle.authenticator.proofs.ClosedForm.{independent, absorb-sized}
 use Rattle.machine.specs.Machine.{State, keystreamBit, step, run, crypt}

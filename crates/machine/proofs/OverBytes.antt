@@ -1,21 +1,24 @@
--- The machine over byte strings, one byte after the other.
+-- The machine over byte strings, one piece after the other.
 -- Assumes nothing.
-use mathlib.Core.Path.{_≡_, refl, sym, ap, ap₂, _∙_}
+use mathlib.Core.Path.{_≡_, refl, sym, ap, _∙_}
 use mathlib.Core.Bool.{Bool, true, false, cond}
-use mathlib.Core.List.{List, [], _∷_, _++_, append-assoc, append-nil}
-use Prim.Native.Nat.{ℕ, suc, _+_, _<_, _≤_}
-use native.Mathlib.Nat.{mod-eq-of-lt, le-of-eq}
-use native.Mathlib.Numerals.{add-one}
+use mathlib.Core.List.{List, [], _∷_, _++_, append-nil}
+use Prim.Native.Nat.{ℕ, _+_, _*_, _/_, _<_, _≤_}
+use native.Mathlib.Nat.{add-mul}
 use native.Mathlib.Omega.{arith}
-use lib.ListN.{length, getD, take, drop, set, drop-of-length-le, take-append-drop}
-use lib.Seq.{drop-cons, take-at, drop-at, take-suc-set, drop-set-lt, drop-drop}
+use lib.ListN.{length, getD, take, drop, take-append-drop}
+use lib.Seq.{drop-cons, take-add, length-take-le}
 use Rattle.bits.specs.Bit.{_⊻_}
-use Rattle.bits.specs.Bytes.{word, value, bits, bytes}
-use Rattle.bits.proofs.Word.{length-word, value-word}
-use Rattle.machine.specs.declared.engine.Crypted.{Crypted}
+use Rattle.bits.specs.Bytes.{word, bits, bytes}
+use Rattle.bits.specs.Times.{times}
+use Rattle.bits.proofs.Packing.{bits-append}
+use Rattle.preoutput.specs.Algebra.{single}
+use Rattle.preoutput.specs.Generator.{plain}
+use Rattle.machine.specs.declared.engine.Engine.{Engine}
 use Rattle.machine.specs.Engine.{stateOf, Crypts}
 use Rattle.machine.specs.Machine.{State, keystreamBit, step, run, crypt}
 use Rattle.machine.proofs.Machine.{run-append, length-crypt}
+use Rattle.machine.proofs.Clocks.{run-clocked}
 
 -- The machine after the message whose bits are given or come out.
 unfoldable pub through : (sealing : Bool) → State → List Bool → State
@@ -31,103 +34,64 @@ unfolding through crypt run
 through-nil true st = refl
 through-nil false st = refl
 
-through-append : (sealing : Bool) (st : State) (s t : List Bool) → through sealing st (s ++ t) ≡ through sealing (through sealing st s) t
+pub through-append : (sealing : Bool) (st : State) (s t : List Bool) → through sealing st (s ++ t) ≡ through sealing (through sealing st s) t
 through-append sealing st [] t = ap (λ (a : State). through sealing a t) (sym (through-nil sealing st))
 through-append sealing st (x ∷ s) t =
     through-cons sealing st x (s ++ t) ∙ through-append sealing (step st (cond sealing x (x ⊻ keystreamBit st))) s t
     ∙ ap (λ (a : State). through sealing a t) (sym (through-cons sealing st x s))
 
-crypt-append : (sealing : Bool) (st : State) (s t : List Bool) → crypt sealing st (s ++ t) ≡ crypt sealing st s ++ crypt sealing (through sealing st s) t
-unfolding crypt
-crypt-append sealing st [] t = ap (λ (a : State). crypt sealing a t) (sym (through-nil sealing st))
-crypt-append sealing st (x ∷ s) t =
-    ap (λ (r : List Bool). (x ⊻ keystreamBit st) ∷ r)
-    (crypt-append sealing (step st (cond sealing x (x ⊻ keystreamBit st))) s t
-    ∙ ap (λ (a : State). crypt sealing (step st (cond sealing x (x ⊻ keystreamBit st))) s ++ crypt sealing a t) (sym (through-cons sealing st x s)))
+-- Whatever the message, as many clocks.
+pub through-clocked : (sealing : Bool) (st : State) (s : List Bool) → through sealing st s .generator ≡ times (2 * length s) (plain single) (st .generator)
+unfolding through
+through-clocked true st s = run-clocked st s
+through-clocked false st s = run-clocked st (crypt false st s) ∙ ap (λ (n : ℕ). times (2 * n) (plain single) (st .generator)) (length-crypt false st s)
 
--- The bytes of a string from place i on, as the byte there and those behind it.
-bits-from : (s : List ℕ) (i : ℕ) → i < length s → bits (drop i s) ≡ word 8 (getD s i 0) ++ bits (drop (suc i) s)
+-- A string in two pieces, the second from place i on.
+pub record Pieces (s t whole : List ℕ) (i : ℕ) : Type 0 where
+  pub joined : s ++ t ≡ whole
+  pub place : length s ≡ i
+
+-- The k bytes behind the first i, and word i behind the words before it.
+pub more : (s : List ℕ) (i k : ℕ) → i ≤ length s → Pieces (take i s) (take k (drop i s)) (take (i + k) s) i
+more s i k h = record { joined = sym (take-add i k s); place = length-take-le i s h }
+
+pub more-word : (s : List ℕ) (i : ℕ) → i * 4 ≤ length s → Pieces (take (i * 4) s) (take 4 (drop (i * 4) s)) (take ((i + 1) * 4) s) (i * 4)
+more-word s i h = rw (add-mul i 1 4) (more s (i * 4) 4 h)
+
+-- All whole words, and the bytes that are left.
+pub words-and-bytes : (s : List ℕ) → Pieces (take (length s / 4 * 4) s) (drop (length s / 4 * 4) s) s (length s / 4 * 4)
+words-and-bytes s = record { joined = take-append-drop (length s / 4 * 4) s; place = length-take-le (length s / 4 * 4) s (omega arith) }
+
+-- The bits of a byte, as those of a piece.
+pub byte-piece : (s : List ℕ) (i : ℕ) → i < length s → word 8 (getD s i 0) ≡ bits (take 1 (drop i s))
 unfolding bits
-bits-from s i h = ap bits (drop-cons s i 0 h)
+byte-piece s i h = sym (append-nil (word 8 (getD s i 0))) ∙ sym (ap (λ (l : List ℕ). bits (take 1 l)) (drop-cons s i 0 h))
 
--- Strings of one byte and of three.
+-- What goes over strings of bits one after the other goes over the pieces of a byte string.
+module _ (over : State → List Bool → State) (appends : (st : State) (s t : List Bool) → over st (s ++ t) ≡ over (over st s) t) where
+  pub over-pieces : {s t whole : List ℕ} {i : ℕ} (st : State) {a b : State} → Pieces s t whole i → a ≡ over st (bits s) → b ≡ over a (bits t) → b ≡ over st (bits whole)
+  over-pieces {s} {t} st pieces first second =
+      second ∙ ap (λ (x : State). over x (bits t)) first
+      ∙ sym (ap (over st) (bits-append s t) ∙ appends st (bits s) (bits t)) ∙ ap (λ (l : List ℕ). over st (bits l)) (pieces .joined)
+
+-- A byte, before a string and alone, and three bytes.
+pub run-cons : (st : State) (x : ℕ) (s : List ℕ) {a b : State} → a ≡ run st (word 8 x) → b ≡ run a (bits s) → b ≡ run st (bits (x ∷ s))
+unfolding bits
+run-cons st x s ea eb = eb ∙ ap (λ (a : State). run a (bits s)) ea ∙ sym (run-append st (word 8 x) (bits s))
+
 pub run-one : (st : State) (x : ℕ) → run st (word 8 x) ≡ run st (bits (x ∷ []))
 unfolding bits
 run-one st x = ap (run st) (sym (append-nil (word 8 x)))
 
 pub run-three : (st : State) (x y z : ℕ) {a b c : State} → a ≡ run st (word 8 x) → b ≡ run a (word 8 y) → c ≡ run b (word 8 z) → c ≡ run st (bits (x ∷ y ∷ z ∷ []))
-unfolding bits
-run-three st x y z {a} {b} ea eb ec =
-    ec ∙ run-one b z ∙ ap (λ (s : State). run s (bits (z ∷ []))) eb ∙ sym (run-append a (word 8 y) (bits (z ∷ [])))
-    ∙ ap (λ (s : State). run s (bits (y ∷ z ∷ []))) ea ∙ sym (run-append st (word 8 x) (bits (y ∷ z ∷ [])))
-
--- A loop over the bytes of a string whose keystream is dropped: one turn of it, and its end.
-module _ (s : List ℕ) (a : State) {target : State} where
-  pub run-turn : (i : ℕ) {b : State} → i < length s → b ≡ run a (word 8 (getD s i 0)) → run a (bits (drop i s)) ≡ target → run b (bits (drop (suc i) s)) ≡ target
-  run-turn i h e whole =
-      ap (λ (st : State). run st (bits (drop (suc i) s))) e
-      ∙ sym (ap (run a) (bits-from s i h) ∙ run-append a (word 8 (getD s i 0)) (bits (drop (suc i) s))) ∙ whole
-
-  pub run-end : (i : ℕ) → length s ≤ i → run a (bits (drop i s)) ≡ target → a ≡ target
-  unfolding run bits
-  run-end i h whole = sym (ap (λ (l : List ℕ). run a (bits l)) (drop-of-length-le s h)) ∙ whole
-
--- The same for bytes that are enciphered or deciphered.
-module _ (sealing : Bool) (s : List ℕ) (a : State) {target : State} where
-  pub through-turn : (i : ℕ) {b : State} → i < length s → b ≡ through sealing a (word 8 (getD s i 0)) → through sealing a (bits (drop i s)) ≡ target → through sealing b (bits (drop (suc i) s)) ≡ target
-  through-turn i h e whole =
-      ap (λ (st : State). through sealing st (bits (drop (suc i) s))) e
-      ∙ sym (ap (through sealing a) (bits-from s i h) ∙ through-append sealing a (word 8 (getD s i 0)) (bits (drop (suc i) s))) ∙ whole
-
-  pub through-end : (i : ℕ) → length s ≤ i → through sealing a (bits (drop i s)) ≡ target → a ≡ target
-  unfolding bits
-  through-end i h whole = sym (ap (λ (l : List ℕ). through sealing a (bits l)) (drop-of-length-le s h) ∙ through-nil sealing a) ∙ whole
-
-pub crypts-through : {sealing : Bool} {st : State} {x : ℕ} {r : Crypted} → Crypts sealing st x r → stateOf (r .engine) ≡ through sealing st (word 8 x)
-unfolding through
-crypts-through {sealing} {st} {x} c = c .engine ∙ ap (λ (t : List Bool). run st (cond sealing (word 8 x) t)) (c .byte)
+run-three st x y z {a} {b} ea eb ec = run-cons st x (y ∷ z ∷ []) ea (run-cons a y (z ∷ []) eb (ec ∙ run-one b z))
 
 -- The bytes that come out.
 unfoldable pub cryptBytes : (sealing : Bool) → State → List ℕ → List ℕ
 cryptBytes sealing st s = bytes (length s) (crypt sealing st (bits s))
 
-cryptBytes-cons : (sealing : Bool) (st : State) (x byte : ℕ) (s : List ℕ) → byte < 256 → word 8 byte ≡ crypt sealing st (word 8 x)
-    → cryptBytes sealing st (x ∷ s) ≡ byte ∷ cryptBytes sealing (through sealing st (word 8 x)) s
-unfolding cryptBytes bytes bits
-cryptBytes-cons sealing st x byte s small e =
-    ap (λ (r : List Bool). value (take 8 r) ∷ bytes (length s) (drop 8 r)) (crypt-append sealing st (word 8 x) (bits s))
-    ∙ ap₂ _∷_
-    (ap value (take-at first rest 8 eight ∙ sym e) ∙ value-word 8 byte ∙ mod-eq-of-lt small)
-    (ap (bytes (length s)) (drop-at first rest 8 eight))
-  where
-    first : List Bool
-    first = crypt sealing st (word 8 x)
-
-    rest : List Bool
-    rest = crypt sealing (through sealing st (word 8 x)) (bits s)
-
-    eight : length first ≡ 8
-    eight = length-crypt sealing st (word 8 x) ∙ length-word 8 x
-
--- What lies behind a written byte stays as lent.
-pub keep-turn : (lent : List ℕ) (i byte : ℕ) (out : List ℕ) → drop i out ≡ drop i lent → drop (suc i) (set out i byte) ≡ drop (suc i) lent
-keep-turn lent i byte out e =
-    drop-set-lt (suc i) out i byte (omega arith)
-    ∙ ap (λ (k : ℕ). drop k out) (sym (add-one i)) ∙ sym (drop-drop 1 i out) ∙ ap (drop 1) e ∙ drop-drop 1 i lent ∙ ap (λ (k : ℕ). drop k lent) (add-one i)
-
--- One turn of the loop that writes them, and its end. The output so far, and the bytes that are still to come, are all of them.
-module _ (sealing : Bool) (s lent : List ℕ) (a : State) {whole : List ℕ} where
-  pub write-turn : (i byte : ℕ) (out : List ℕ) {b : State} → i < length s → i < length out → byte < 256
-      → word 8 byte ≡ crypt sealing a (word 8 (getD s i 0)) → b ≡ through sealing a (word 8 (getD s i 0))
-      → take i out ++ cryptBytes sealing a (drop i s) ≡ whole → take (suc i) (set out i byte) ++ cryptBytes sealing b (drop (suc i) s) ≡ whole
-  write-turn i byte out h l small e st all =
-      ap₂ (λ (p : List ℕ) (q : State). p ++ cryptBytes sealing q (drop (suc i) s)) (take-suc-set out i byte l) st
-      ∙ append-assoc (take i out) (byte ∷ []) (cryptBytes sealing (through sealing a (word 8 (getD s i 0))) (drop (suc i) s))
-      ∙ sym (ap (λ (r : List ℕ). take i out ++ r) (ap (cryptBytes sealing a) (drop-cons s i 0 h) ∙ cryptBytes-cons sealing a (getD s i 0) byte (drop (suc i) s) small e))
-      ∙ all
-
-  pub write-end : (i : ℕ) (out : List ℕ) → i ≡ length s → take i out ++ cryptBytes sealing a (drop i s) ≡ whole → drop i out ≡ drop i lent → out ≡ whole ++ drop (length s) lent
-  unfolding cryptBytes bytes
-  write-end i out e all kept =
-      sym (take-append-drop i out)
-      ∙ ap₂ _++_ (sym (ap (λ (r : List ℕ). take i out ++ cryptBytes sealing a r) (drop-of-length-le s (le-of-eq (sym e))) ∙ append-nil (take i out)) ∙ all) (kept ∙ ap (λ (k : ℕ). drop k lent) e)
+-- The machine after bits that are the lowest of a number.
+pub crypts-through : {n : ℕ} {sealing : Bool} {st : State} {x y : ℕ} {r : Engine} {s : List Bool} → Crypts n sealing st x y r → word n x ≡ s → stateOf r ≡ through sealing st s
+unfolding through
+crypts-through {n} {sealing} {st} {x} c e =
+    c .engine ∙ ap (λ (t : List Bool). run st (cond sealing (word n x) t)) (c .crypted) ∙ ap (λ (s : List Bool). run st (cond sealing s (crypt sealing st s))) e

@@ -1,25 +1,27 @@
 -- The machine in words.
 use mathlib.Core.Path.{_≡_}
 use mathlib.Core.Bool.{Bool, cond}
-use mathlib.Core.List.{List, _++_}
-use Prim.Native.Nat.{ℕ}
-use lib.ListN.{length, drop}
+use mathlib.Core.List.{List}
+use Prim.Native.Nat.{ℕ, _*_, _^_, _<_}
+use lib.ListN.{length}
 use Rattle.bits.specs.Bytes.{word, bits, bytes}
+use Rattle.bits.specs.Strings.{_⊞_}
+use Rattle.preoutput.specs.Algebra.{single}
+use Rattle.preoutput.specs.Generator.{Generator, everySecond}
 use Rattle.preoutput.specs.Words.{generatorOf}
 use Rattle.authenticator.specs.Words.{authenticatorOf}
 use Rattle.machine.specs.declared.engine.Engine.{Engine}
-use Rattle.machine.specs.declared.engine.Crypted.{Crypted}
 use Rattle.machine.specs.Machine.{State, run, crypt}
 
 unfoldable pub stateOf : Engine → State
 stateOf e = record { generator = generatorOf (e .registers); authenticator = authenticatorOf (e .tagger) }
 
--- A byte with its keystream added, and the machine after the message's byte.
-pub record Crypts (sealing : Bool) (st : State) (x : ℕ) (r : Crypted) : Type 0 where
-  pub byte : word 8 (r .byte) ≡ crypt sealing st (word 8 x)
-  pub engine : stateOf (r .engine) ≡ run st (cond sealing (word 8 x) (word 8 (r .byte)))
+-- n bits of the string, the lowest of x, with their keystream added as a number y of n bits, and the machine after the message's.
+pub record Crypts (n : ℕ) (sealing : Bool) (st : State) (x y : ℕ) (after : Engine) : Type 0 where
+  pub small : y < 2 ^ n
+  pub crypted : word n y ≡ crypt sealing st (word n x)
+  pub engine : stateOf after ≡ run st (cond sealing (word n x) (word n y))
 
--- A string with its keystream added, at the front of the output, and the machine after the message.
-pub record CryptsAll (sealing : Bool) (st : State) (s lent output : List ℕ) (r : Engine) : Type 0 where
-  pub written : output ≡ bytes (length s) (crypt sealing st (bits s)) ++ drop (length s) lent
-  pub engine : stateOf r ≡ run st (cond sealing (bits s) (crypt sealing st (bits s)))
+-- A byte string with a generator's keystream added.
+abbrev pub withKeystream : Generator Bool → List ℕ → List ℕ
+withKeystream g s = bytes (length s) (bits s ⊞ everySecond single (8 * length s) g)

@@ -1,15 +1,16 @@
-// The machine on words, one byte of the string at a time.
+// The machine on words, one byte or four bytes of the string at a time.
 ghost use mathlib.Core.Path.{_≡_};
 ghost use mathlib.Core.Bool.{true};
 ghost use mathlib.Core.List.{_∷_, []};
 ghost use Rattle.bits.specs.Bytes.{word};
 ghost use Rattle.preoutput.specs.Words.{generatorOf};
-ghost use Rattle.preoutput.specs.Streams.{Streams};
+ghost use Rattle.strokes.specs.Streams.{Streams};
 ghost use Rattle.machine.specs.Machine.{run};
 ghost use Rattle.machine.specs.Engine.{stateOf, Crypts};
 use authenticator::Tagger;
 use preoutput::Registers;
-use preoutput::Streamed;
+use strokes::streams;
+use strokes::streams::Streamed;
 
 pub struct Engine {
     pub registers: Registers,
@@ -18,7 +19,7 @@ pub struct Engine {
 
 // The machine after a byte m of the string, from the byte's clocks.
 fn after(e: Engine, m: u8, s: Streamed) -> Engine
-    requires { ⌜ Streams (generatorOf (e .registers)) s ⌝ }
+    requires { ⌜ Streams 8 (generatorOf (e .registers)) s ⌝ }
     ensures { λ r. ⌜ stateOf r ≡ run (stateOf e) (word 8 m) ⌝ }
 {
     let registers = s.registers;
@@ -26,13 +27,6 @@ fn after(e: Engine, m: u8, s: Streamed) -> Engine
         registers,
         tagger: authenticator::absorb_byte(e.tagger, bits::wide(m), s.authentication),
     }
-}
-
-// A byte of the string whose keystream is dropped.
-pub fn absorb_byte(e: Engine, m: u8) -> Engine
-    ensures { λ r. ⌜ stateOf r ≡ run (stateOf e) (word 8 m) ⌝ }
-{
-    after(e, m, preoutput::stream(e.registers))
 }
 
 // The machine after a byte, and the byte with its keystream added.
@@ -43,9 +37,9 @@ pub struct Crypted {
 
 // A message's byte when sealing, a ciphertext's when opening.
 pub fn crypt_byte(e: Engine, x: u8, sealing: bool) -> Crypted
-    ensures { λ r. ⌜ Crypts sealing (stateOf e) x r ⌝ }
+    ensures { λ r. ⌜ Crypts 8 sealing (stateOf e) x (r .byte) (r .engine) ⌝ }
 {
-    let s = preoutput::stream(e.registers);
+    let s = streams::stream_byte(e.registers);
     let byte = x ^ ((s.keystream % 256) as u8);
     let m = if sealing { x } else { byte };
     Crypted {
@@ -54,16 +48,49 @@ pub fn crypt_byte(e: Engine, x: u8, sealing: bool) -> Crypted
     }
 }
 
-// The tag: the accumulator after the final 1.
+// A byte of the string whose keystream is dropped.
+pub fn absorb_byte(e: Engine, m: u8) -> Engine
+    ensures { λ r. ⌜ stateOf r ≡ run (stateOf e) (word 8 m) ⌝ }
+{
+    let c = crypt_byte(e, m, true);
+    c.engine
+}
+
+// The machine after 32 bits of the string, the lowest of `m`, from their clocks.
+fn after_word(e: Engine, m: u64, s: Streamed) -> Engine
+    requires { ⌜ Streams 32 (generatorOf (e .registers)) s ⌝ }
+    ensures { λ r. ⌜ stateOf r ≡ run (stateOf e) (word 32 m) ⌝ }
+{
+    let registers = s.registers;
+    Engine {
+        registers,
+        tagger: authenticator::absorb_word(e.tagger, m, s.authentication),
+    }
+}
+
+// The machine after a word of the string, and the word with its keystream added.
+pub struct CryptedWord {
+    pub engine: Engine,
+    pub word: u64,
+}
+
+// Thirty-two bits, the lowest of `x`: a message's when sealing, a ciphertext's when opening. The word that comes out has no others.
+pub fn crypt_word(e: Engine, x: u64, sealing: bool) -> CryptedWord
+    ensures { λ r. ⌜ Crypts 32 sealing (stateOf e) x (r .word) (r .engine) ⌝ }
+{
+    let s = streams::stream_word(e.registers);
+    let word = (x ^ s.keystream) % 0x1_0000_0000;
+    let m = if sealing { x } else { word };
+    CryptedWord {
+        engine: after_word(e, m, s),
+        word,
+    }
+}
+
+// The tag: the accumulator after the final 1, which adds the register to it.
 pub fn finish(e: Engine) -> u64
     ensures { λ r. ⌜ word 64 r ≡ run (stateOf e) (true ∷ []) .authenticator .accumulator ⌝ }
 {
-    let registers = e.registers;
-    let s = preoutput::two_clocks(Streamed {
-        registers,
-        keystream: 0,
-        authentication: 0,
-    });
-    let t = authenticator::absorb(e.tagger, 1, s.authentication);
-    t.accumulator
+    let t = e.tagger;
+    t.accumulator ^ t.register
 }

@@ -1,3 +1,2 @@
-// The machine on words: the pre-output generator and the authenticator, run over bytes and over byte strings.
+// The machine on words: the pre-output generator and the authenticator, run over one byte or four bytes of the string.
 pub mod engine;
-pub mod strings;

@@ -28,5 +28,5 @@ pub fn begin(key: &[u8; 16], nonce: &[u8; 12], ad: &[u8]) -> Engine
     ensures { λ r. ⌜ stateOf r ≡ begun (now (key .entry)) (now (nonce .entry)) (now (ad .entry)) ⌝ }
 {
     let started = startup::start(key, nonce);
-    machine::strings::absorb_all(absorb_length(started, ad.len()), ad)
+    strings::absorb_all(absorb_length(started, ad.len()), ad)
 }

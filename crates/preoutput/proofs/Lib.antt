@@ -1,4 +1,5 @@
 pub mod Published
 pub mod Sizes
 pub mod Words
-pub mod Streams
+pub mod EverySecond
+pub mod Runs

@@ -3,4 +3,4 @@ pub mod Functions
 pub mod Generator
 pub mod Published
 pub mod Words
-pub mod Streams
+pub mod Running

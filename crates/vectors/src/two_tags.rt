@@ -5,7 +5,9 @@ use crate::published::NONCE;
 use crate::tally;
 use crate::tally::Tally;
 use machine::engine::Engine;
-use preoutput::Streamed;
+use preoutput::Adding;
+use preoutput::Run;
+use preoutput::plain;
 
 // The bits of the longest string here, with the zeros behind its final 1.
 const LONGEST: usize = 96;
@@ -24,18 +26,30 @@ fn differ(s: &[u8], t: &[u8], position: usize) -> bool {
     (bits >> (7 - position % 8)) % 2 == 1
 }
 
-// The machine after a zero of the string.
+// Nothing is added to the new bits.
+const PLAIN: Adding = Adding {
+    fed: false,
+    lfsr0: 0,
+    lfsr1: 0,
+    nfsr0: 0,
+    nfsr1: 0,
+};
+
+// The machine after a zero of the string, clock by clock: the lowest of the two pre-outputs is that of the second clock.
 fn next(e: Engine) -> Engine {
     let registers = e.registers;
-    let s = preoutput::two_clocks(Streamed {
-        registers,
-        keystream: 0,
-        authentication: 0,
-    });
-    let clocked = s.registers;
+    let r = plain::run(
+        Run {
+            registers,
+            outputs: 0,
+        },
+        PLAIN,
+        2,
+    );
+    let clocked = r.registers;
     Engine {
         registers: clocked,
-        tagger: authenticator::absorb(e.tagger, 0, s.authentication),
+        tagger: authenticator::absorb(e.tagger, 0, r.outputs),
     }
 }
 

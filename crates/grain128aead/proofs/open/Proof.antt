@@ -112,8 +112,8 @@ tag-part-requires c κs = search needs
 number-requires : tie.Need-number-requires
 number-requires c κs = search needs
 
-crypt-all-requires : tie.Need-crypt-all-requires
-crypt-all-requires c κs = search needs
+add-keystream-requires : tie.Need-add-keystream-requires
+add-keystream-requires c κs = search needs
 
 sub-t26 : tie.Need-sub-t26
 sub-t26 c =
@@ -136,7 +136,7 @@ returns-2 c =
     let j = p .before .before .before in
     let a = j .before .before .before .before .before .before .args in
     called (a .key .now) (a .nonce .now) (a .ad .now) (a .input .now) (a .out .now) (is-bytes j)
-    (open-passed (checked j) (p .before .enum-told .given .1) (compared n) (c .before .before .before .before .if1 .taken) (rw (p .ciphertext-part .ensures) at (c .before .before .crypt-all .ensures)))
+    (open-passed (checked j) (p .before .enum-told .given .1) (compared n) (c .before .before .before .before .if1 .taken) (rw (p .ciphertext-part .ensures) at (c .before .before .add-keystream .ensures)))
 
 returns-3 : tie.Need-returns-3
 returns-3 c =
@@ -160,7 +160,7 @@ open-spec =
     finish-requires
     tag-part-requires
     number-requires
-    crypt-all-requires
+    add-keystream-requires
     sub-t26
     returns
     same-length

@@ -2,10 +2,13 @@
 -- Assumes nothing.
 use mathlib.Core.Path.{_≡_, sym, subst}
 use mathlib.Core.List.{List}
-use Prim.Native.Nat.{ℕ}
+use Prim.Native.Nat.{ℕ, _+_, _≤_}
 use native.Mathlib.Omega.{arith}
 use borrow.Author.Needs.{needs}
+use lib.ListN.{length}
+use Rattle.bits.proofs.Written.{word-written}
 use Rattle.refusals.specs.Outcome.{Outcome}
+use Rattle.payload.specs.Sizes.{tagSize}
 use Rattle.payload.specs.Payload.{payload}
 use Rattle.grain128aead.specs.Sizes.{messageLimit}
 use Rattle.grain128aead.specs.Calls.{sealingRow, sealed}
@@ -51,19 +54,34 @@ begin-requires c κs =
     let h = seal-clear (checked (c .before .before)) (c .enum-told .given .1) in
     (h .keySized, h .nonceSized)
 
-crypt-all-requires : tie.Need-crypt-all-requires
-crypt-all-requires c κs = search needs
+-- There is room for the payload.
+room : (w : tie.After-encipher-all) →
+    let a = w .before .before .before .before .before .before .before .before .before .before .before .args in
+    length (a .message .now) + tagSize ≤ length (a .out .now)
+room w = seal-room (checked (w .before .before .before .before .before)) (w .before .before .before .enum-told .given .1)
+
+encipher-all-requires : tie.Need-encipher-all-requires
+encipher-all-requires c κs = search needs
+
+add-end : tie.Need-add-end
+add-end c = omega (arith, room (c .before .before), c .before .before .before .before .before .before .before .before .before .before .before .before .before .good)
 
 finish-requires : tie.Need-finish-requires
 finish-requires c κs = search needs
 
-store-requires : tie.Need-store-requires
-store-requires c κs =
-    let w = c .before .before .before .before in
-    omega (arith, w .crypt-all .kept, seal-room (checked (w .before .before .before .before .before)) (w .before .before .before .enum-told .given .1))
+sub-spell : tie.Need-sub-spell
+sub-spell c = search needs
 
-add-t22 : tie.Need-add-t22
-add-t22 c = omega (arith, c .before .before .before .before .before .before .before .before .before .before .before .before .before .before .before .before .before .before .good)
+part-spell-start : tie.Need-part-spell-start
+part-spell-start c = search needs
+
+part-spell-end : tie.Need-part-spell-end
+part-spell-end c =
+    let w = c .before .before .before in
+    omega (arith, w .encipher-all .kept, room w)
+
+spell-requires : tie.Need-spell-requires
+spell-requires c κs = search needs
 
 returns : tie.Need-returns
 returns c =
@@ -77,13 +95,15 @@ same-length c = search needs
 
 returns-2 : tie.Need-returns-2
 returns-2 c =
-    let w = c .before .before .before .before .before .before .before in
+    let s = c .before .before in
+    let f = s .before .before in
+    let w = f .before .before .before in
     let b = w .before .before in
     let j = b .before .before .before in
     let a = j .before .before .before .before .before .before .args in
     called (a .key .now) (a .nonce .now) (a .ad .now) (a .message .now) (a .out .now)
-    (seal-passed (checked j) (b .before .enum-told .given .1) (b .begin .result) (w .crypt-all .result) (c .before .before .before .finish .result)
-    (b .begin .ensures) (w .crypt-all .ensures) (c .before .before .before .finish .ensures) (c .before .before .store .ensures))
+    (seal-passed (checked j) (b .before .enum-told .given .1) (b .begin .result) (w .encipher-all .result) (f .finish .result)
+    (b .begin .ensures) (w .encipher-all .ensures) (f .finish .ensures) (word-written _ (length (a .message .now)) 8 (f .finish .result) (omega (arith, w .encipher-all .kept, room w)) (s .spell .ensures)))
 
 pub seal-spec : {M : Type 1} → statement M
 seal-spec =
@@ -94,10 +114,13 @@ seal-spec =
     enum-known-r
     enum-told
     begin-requires
-    crypt-all-requires
+    encipher-all-requires
+    add-end
     finish-requires
-    store-requires
-    add-t22
+    sub-spell
+    part-spell-start
+    part-spell-end
+    spell-requires
     returns
     same-length
     returns-2)

@@ -1,12 +1,10 @@
 -- `startup::start` meets its contract.
 -- Assumes nothing.
-use mathlib.Core.Path.{_≡_, ap, _∙_}
+use mathlib.Core.Path.{ap, _∙_}
 use borrow.Author.Needs.{needs}
-use lib.ListN.{length}
 use Rattle.bits.specs.Times.{times}
 use Rattle.preoutput.specs.Algebra.{single}
 use Rattle.preoutput.specs.Generator.{fedBack}
-use Rattle.startup.specs.Sizes.{keySize}
 use Rattle.startup.specs.StartUp.{warmed}
 use Rattle.startup.proofs.Initialised.{initialised-words}
 use Rattle.startup.proofs.start.Statement.{statement}
@@ -27,14 +25,12 @@ fill-requires-2 c κs = search needs
 returns : tie.Need-returns
 unfolding warmed
 returns c =
-    let f = c .before .before .before .before in
-    let b = f .before .before in
+    let f = c .before .before .before in
+    let b = f .before in
     let l = b .before in
     let s = l .before in
-    let key : length (s .args .key .now) ≡ keySize = search needs in
-    initialised-words (s .args .key .now) (s .args .nonce .now) (b .feed-back .result) (f .fill .result) (c .before .fill2 .result)
-    key
-    (b .feed-back .ensures ∙ ap (times 256 (fedBack single)) (l .load .ensures)) (f .fill .ensures) (c .before .fill2 .ensures)
+    initialised-words (s .args .key .now) (s .args .nonce .now) (l .load .result) (b .feed-back .result) (f .fill .result) (c .before .fill2 .result)
+    (l .load .ensures) (b .feed-back .ensures ∙ ap (times 256 (fedBack single)) (l .load .ensures)) (f .fill .ensures) (c .before .fill2 .ensures)
 
 pub start-spec : {M : Type 1} → statement M
 start-spec =

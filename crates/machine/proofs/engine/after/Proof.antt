@@ -1,7 +1,8 @@
 -- `machine::engine::after` meets its contract.
 -- Assumes nothing.
+use native.Mathlib.Omega.{arith}
 use borrow.Author.Needs.{needs}
-use Rattle.machine.proofs.Bytewise.{byte-run}
+use Rattle.machine.proofs.Bitwise.{bits-run}
 use Rattle.machine.proofs.engine.after.Statement.{statement}
 use Rattle.machine.proofs.engine.after.Tie as tie
 
@@ -14,7 +15,7 @@ absorb-byte-requires c κs = search needs
 returns : tie.Need-returns
 returns c =
     let s = c .before .before .before in
-    byte-run (s .args .e) (s .args .m) (s .args .s) (c .absorb-byte .result) (s .pre) (rw (c .before .wide .ensures) at (c .absorb-byte .ensures))
+    bits-run 8 (s .args .e) (s .args .m) (s .args .s) (c .absorb-byte .result) (omega arith) (s .pre) (rw (c .before .wide .ensures) at (c .absorb-byte .ensures))
 
 pub after-spec : {M : Type 1} → statement M
 after-spec = tie.close (tie.spec wide-requires absorb-byte-requires returns)

@@ -1,16 +1,15 @@
 -- `payload::header::absorb_length` meets its contract.
 -- Assumes nothing.
-use mathlib.Core.Path.{refl, ap, _∙_}
+use mathlib.Core.Path.{ap, _∙_}
 use mathlib.Core.List.{[], _∷_}
 use Prim.Native.Nat.{_/_, _%_}
 use native.Mathlib.Nat.{mod-mod}
 use native.Mathlib.Omega.{arith}
 use borrow.Author.Needs.{needs}
-use lib.Dec.{lit<}
 use Rattle.bits.proofs.Word.{word-agrees}
 use Rattle.machine.specs.Machine.{run}
 use Rattle.machine.specs.Engine.{stateOf}
-use Rattle.machine.proofs.OverBytes.{run-one, run-three, run-turn}
+use Rattle.machine.proofs.OverBytes.{run-one, run-cons, run-three}
 use Rattle.payload.proofs.CodedLength.{coded-short, coded-one, coded-two}
 use Rattle.payload.proofs.header.absorb_length.Statement.{statement}
 use Rattle.payload.proofs.header.absorb_length.Tie as tie
@@ -39,8 +38,7 @@ returns-2 : tie.Need-returns-2
 returns-2 c =
     let a = c .before .before .before .before .args in
     rw (coded-one (a .n) (omega (arith, c .before .before .before .if1 .left)) (omega (arith, c .before .before .if2 .taken)))
-    (c .absorb-byte3 .ensures ∙ run-one (stateOf (c .before .absorb-byte2 .result)) (a .n)
-    ∙ run-turn (0x81 ∷ a .n ∷ []) (stateOf (a .e)) 0 (lit< tt) (c .before .absorb-byte2 .ensures) refl)
+    (run-cons (stateOf (a .e)) 0x81 (a .n ∷ []) (c .before .absorb-byte2 .ensures) (c .absorb-byte3 .ensures ∙ run-one (stateOf (c .before .absorb-byte2 .result)) (a .n)))
 
 absorb-byte-requires-4 : tie.Need-absorb-byte-requires-4
 absorb-byte-requires-4 c κs = search needs

@@ -1,0 +1,4 @@
+pub mod Windows
+pub mod Strokes
+pub mod Streams
+pub mod Engines

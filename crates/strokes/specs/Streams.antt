@@ -1,0 +1,30 @@
+-- The pre-outputs of plain running, keystream and authentication bits by turns (source document 000, section 2.3).
+use mathlib.Core.Path.{_≡_}
+use mathlib.Core.Bool.{Bool}
+use mathlib.Core.List.{_++_}
+use Prim.Native.Nat.{ℕ, _-_, _*_}
+use Rattle.bits.specs.Bytes.{word}
+use Rattle.bits.specs.Strings.{zeros, evens, odds}
+use Rattle.bits.specs.Times.{times}
+use Rattle.preoutput.specs.declared.Registers.{Registers}
+use Rattle.preoutput.specs.declared.Run.{Run}
+use Rattle.strokes.specs.declared.streams.Streamed.{Streamed}
+use Rattle.preoutput.specs.Algebra.{single}
+use Rattle.preoutput.specs.Generator.{Generator, plain, everySecond}
+use Rattle.preoutput.specs.Words.{generatorOf}
+
+-- The pre-outputs in turn, parted.
+pub record Parted (r : Run) (s : Streamed) : Type 0 where
+  pub registers : s .registers ≡ r .registers
+  pub keystream : word 64 (s .keystream) ≡ zeros 32 ++ evens (word 64 (r .outputs))
+  pub authentication : word 64 (s .authentication) ≡ zeros 32 ++ odds (word 64 (r .outputs))
+
+-- After the clocks of n string bits: the generator, the n keystream bits, and the n authentication bits. The bits of a word above its n
+-- are zeros.
+pub record Keystreams (n : ℕ) (g : Generator Bool) (after : Registers) (k : ℕ) : Type 0 where
+  pub generator : generatorOf after ≡ times (2 * n) (plain single) g
+  pub keystream : word 64 k ≡ zeros (64 - n) ++ everySecond single n g
+
+pub record Streams (n : ℕ) (g : Generator Bool) (s : Streamed) : Type 0 where
+  pub keystreams : Keystreams n g (s .registers) (s .keystream)
+  pub authentication : word 64 (s .authentication) ≡ zeros (64 - n) ++ everySecond single n (plain single g)

@@ -1,0 +1,68 @@
+// The pre-outputs of plain running, which are keystream and authentication bits by turns.
+ghost use Rattle.preoutput.specs.Words.{generatorOf};
+ghost use Rattle.strokes.specs.Streams.{Parted, Keystreams, Streams};
+use crate::stroke;
+use preoutput::Registers;
+use preoutput::Run;
+
+// The registers after some string bits, with the keystream and the authentication bits of their clocks.
+pub struct Streamed {
+    pub registers: Registers,
+    pub keystream: u64,
+    pub authentication: u64,
+}
+
+// With the keystream bits alone.
+pub struct Keystreamed {
+    pub registers: Registers,
+    pub keystream: u64,
+}
+
+fn parted(r: Run) -> Streamed
+    ensures { λ s. ⌜ Parted r s ⌝ }
+{
+    let both = bits::parting::part(r.outputs);
+    let registers = r.registers;
+    Streamed {
+        registers,
+        keystream: both >> 32,
+        authentication: both % 0x1_0000_0000,
+    }
+}
+
+// The clocks of eight string bits.
+pub fn stream_byte(g: Registers) -> Streamed
+    ensures { λ r. ⌜ Streams 8 (generatorOf g) r ⌝ }
+{
+    parted(Run {
+        registers: stroke::stroke(g, 16, 0, 0),
+        outputs: bits::slide(0, stroke::outputs(g) << 32, 16),
+    })
+}
+
+// The clocks of 32 string bits.
+pub fn stream_word(g: Registers) -> Streamed
+    ensures { λ r. ⌜ Streams 32 (generatorOf g) r ⌝ }
+{
+    let half = stroke::plain_stroke(g);
+    parted(Run {
+        registers: stroke::plain_stroke(half),
+        outputs: bits::slide(stroke::outputs(g), stroke::outputs(half) << 32, 32),
+    })
+}
+
+// The same, with the keystream alone. It is written out, since what has one caller is compiled into that caller's loop.
+pub fn keystream_word(g: Registers) -> Keystreamed
+    ensures { λ r. ⌜ Keystreams 32 (generatorOf g) (r .registers) (r .keystream) ⌝ }
+{
+    let half = stroke::plain_stroke(g);
+    let s = parted(Run {
+        registers: stroke::plain_stroke(half),
+        outputs: bits::slide(stroke::outputs(g), stroke::outputs(half) << 32, 32),
+    });
+    let registers = s.registers;
+    Keystreamed {
+        registers,
+        keystream: s.keystream,
+    }
+}
