@@ -69,8 +69,13 @@ $(MODEL): tests/model.rs cli/sizes.rs | $(OUT)
 $(OUT)/harness: tests/harness/main.rs $(wildcard tests/harness/*.rs) $(SHARED) $(MODEL)
 	$(RUST) --crate-name harness $(EXTERNS) -o $@ $<
 
-$(OUT)/bench: bench/main.rs $(SHARED) $(MODEL)
-	$(RUST) --crate-name bench $(EXTERNS) -o $@ $<
+# What the bench times beside the calls.
+$(OUT)/libprobes.a: crates.txt $(PROVED) $(shell find crates/probes -type f) | $(OUT)
+	rt staticlib probes
+	cp target/staticlib/libprobes.a $@
+
+$(OUT)/bench: bench/main.rs $(wildcard bench/*.rs) $(SHARED) $(MODEL) $(OUT)/libprobes.a
+	$(RUST) --crate-name bench $(EXTERNS) -L native=$(OUT) -o $@ $<
 
 # One C program: as C and as C++ with sanitizers, and without them for valgrind, which sees into the archive too.
 WARNINGS := -Wall -Wextra -Wpedantic -Wshadow -Wconversion -Wsign-conversion -Wcast-qual -Wundef -Werror
@@ -121,14 +126,14 @@ outside-test: have-c++ outside-build $(CALLS) $(OUT)/stack $(OUT)/harness
 
 CLIPPY := clippy-driver --edition 2021 -D warnings --emit=metadata --out-dir $(OUT)/lint -L native=build
 
-outside-lint: $(SHARED) $(MODEL)
+outside-lint: $(SHARED) $(MODEL) $(OUT)/libprobes.a
 	rustfmt --edition 2021 --check cli/lib.rs cli/main.rs tests/model.rs tests/harness/main.rs bench/main.rs
 	shellcheck cli/*.sh tests/*.sh
 	$(CLIPPY) --crate-type rlib --crate-name tikhoplav cli/lib.rs
 	$(CLIPPY) --crate-type rlib --crate-name model tests/model.rs
 	TIKHOPLAV_VERSION=$(VERSION) $(CLIPPY) --crate-name tool $(EXTERNS) cli/main.rs
 	$(CLIPPY) --crate-name harness $(EXTERNS) tests/harness/main.rs
-	$(CLIPPY) --crate-name bench $(EXTERNS) bench/main.rs
+	$(CLIPPY) --crate-name bench $(EXTERNS) -L native=$(OUT) bench/main.rs
 
 bench: outside-build $(OUT)/bench
 	@$(OUT)/bench

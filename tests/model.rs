@@ -65,23 +65,28 @@ pub struct Machine {
 }
 
 impl Machine {
-    /// The machine after start-up: 16 bytes of key, whatever they are, 12 of nonce, 384 clocks.
-    pub fn start(key: &[u8], nonce: &[u8]) -> Machine {
-        let key = bits(key);
+    /// The loaded registers: 16 bytes of key, whatever they are, and 12 of nonce.
+    pub fn loaded(key: &[u8], nonce: &[u8]) -> Machine {
         let mut machine = Machine {
             lfsr: [1; 128],
             nfsr: [0; 128],
             accumulator: [0; 64],
             register: [0; 64],
         };
-        machine.nfsr.copy_from_slice(&key);
+        machine.nfsr.copy_from_slice(&bits(key));
         machine.lfsr[..96].copy_from_slice(&bits(nonce));
         machine.lfsr[127] = 0;
+        machine
+    }
+
+    /// The machine after start-up, in 384 clocks.
+    pub fn start(key: &[u8], nonce: &[u8]) -> Machine {
+        let mut machine = Machine::loaded(key, nonce);
         for _ in 0..256 {
             let y = machine.preoutput();
             machine.clock(y, y);
         }
-        for (j, &key_bit) in key.iter().enumerate() {
+        for (j, &key_bit) in bits(key).iter().enumerate() {
             let y = machine.preoutput();
             match j {
                 0..64 => machine.accumulator[j] = y,
@@ -90,6 +95,26 @@ impl Machine {
             machine.clock(key_bit, 0);
         }
         machine
+    }
+
+    /// Plain clocks; the last 64 of their pre-outputs, the latest lowest.
+    pub fn run(&mut self, clocks: usize) -> u64 {
+        (0..clocks).fold(0, |outputs, _| {
+            let y = self.preoutput();
+            self.clock(0, 0);
+            (outputs << 1) | u64::from(y)
+        })
+    }
+
+    /// The LFSR and the NFSR, two words each, place 0 in the top bit.
+    pub fn words(&self) -> [u64; 4] {
+        [
+            &self.lfsr[..64],
+            &self.lfsr[64..],
+            &self.nfsr[..64],
+            &self.nfsr[64..],
+        ]
+        .map(number)
     }
 
     /// The pre-output of the clock to come. Before a bit of the string, that is its keystream bit.
@@ -134,7 +159,7 @@ impl Machine {
 }
 
 /// Place 0 is the top bit.
-fn number(places: &[u8; 64]) -> u64 {
+fn number(places: &[u8]) -> u64 {
     places.iter().fold(0, |n, &bit| (n << 1) | u64::from(bit))
 }
 
