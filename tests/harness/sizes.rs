@@ -5,7 +5,7 @@ use crate::trial::Trial;
 use tikhoplav::archive::Call;
 use tikhoplav::sizes::{AD_MAX, KEY_SIZE, MESSAGE_MAX, NONCE_SIZE, SEALED_MAX, TAG_SIZE};
 
-const SMALL: usize = 40;
+const SMALL: usize = 200;
 const RANDOM_TRIALS: usize = 10_000;
 const LONG_TRIALS: usize = 25;
 
