@@ -1,4 +1,5 @@
 // Bits, bytes and words: the layer below the registers. A register's word has its first place in its top bit.
+mod exchanging;
 pub mod parting;
 
 ghost use mathlib.Core.Path.{_≡_};

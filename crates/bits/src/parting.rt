@@ -1,20 +1,9 @@
 // Bits of two kinds that stand by turns in a word, parted.
+use crate::exchanging::exchange;
 ghost use mathlib.Core.Path.{_≡_};
 ghost use mathlib.Core.List.{_++_};
-ghost use Prim.Native.Nat.{_*_, _^_, _<_};
-ghost use lib.Bits.{bitAnd};
 ghost use Rattle.bits.specs.Bytes.{word};
-ghost use Rattle.bits.specs.Exchange.{Rearranged, source};
 ghost use Rattle.bits.specs.Strings.{evens, odds};
-
-// Exchanges the bits that the mask shows with those `by` places above them, which are in the word and are not shown.
-fn exchange(x: u64, by: u32, mask: u64) -> u64
-    requires { ⌜ (by < 64) × (mask * 2 ^ by < 2 ^ 64) × (bitAnd mask (mask * 2 ^ by) ≡ 0) ⌝ }
-    ensures { λ r. ⌜ Rearranged (source mask by) x r ⌝ }
-{
-    let t = (x ^ (x >> by)) & mask;
-    x ^ t ^ (t << by)
-}
 
 // The places of a word with even numbers, then those with odd numbers: neighbours, pairs, nibbles, bytes and pairs of bytes change places in turn.
 pub fn part(x: u64) -> u64

@@ -1,9 +1,9 @@
--- `bits::parting::exchange` meets its contract.
+-- `bits::exchanging::exchange` meets its contract.
 -- Assumes nothing.
 use borrow.Author.Needs.{needs}
 use Rattle.bits.proofs.Exchange.{exchanged}
-use Rattle.bits.proofs.parting.exchange.Statement.{statement}
-use Rattle.bits.proofs.parting.exchange.Tie as tie
+use Rattle.bits.proofs.exchanging.exchange.Statement.{statement}
+use Rattle.bits.proofs.exchanging.exchange.Tie as tie
 
 shr-t : tie.Need-shr-t
 shr-t c = search needs
