@@ -11,3 +11,4 @@ pub mod Evens
 pub mod Moved
 pub mod Written
 pub mod Slides
+pub mod Turned

@@ -68,7 +68,7 @@ spelled-four s n low len h e =
     ∙ ap (λ (r : List Bool). r ++ word 32 low) (ap (λ (k : ℕ). word (8 * k) n) (sym len) ∙ spelled s n (rw len (lit≤ tt)) e)
 
 -- The bytes of a word, high byte first.
-bytes-word-cons : (n w : ℕ) → bytes (suc n) (word (8 * suc n) w) ≡ (w / 2 ^ (8 * n) % 256) ∷ bytes n (word (8 * n) w)
+pub bytes-word-cons : (n w : ℕ) → bytes (suc n) (word (8 * suc n) w) ≡ (w / 2 ^ (8 * n) % 256) ∷ bytes n (word (8 * n) w)
 unfolding bytes
 bytes-word-cons n w =
     ap (λ (r : List Bool). value (take 8 r) ∷ bytes n (drop 8 r)) split-word

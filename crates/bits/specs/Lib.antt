@@ -3,3 +3,4 @@ pub mod Bytes
 pub mod Exchange
 pub mod Strings
 pub mod Times
+pub mod Turned

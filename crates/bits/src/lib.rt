@@ -1,6 +1,7 @@
 // Bits, bytes and words: the layer below the registers. A register's word has its first place in its top bit.
 mod exchanging;
 pub mod parting;
+pub mod turning;
 
 ghost use mathlib.Core.Path.{_≡_};
 ghost use Prim.Native.Nat.{_*_, _%_, _^_};
