@@ -4,7 +4,7 @@ use mathlib.Core.Path.{_≡_, refl, sym, ap, ap₂, _∙_, fun-ext}
 use mathlib.Core.Bool.{Bool, true, false, cond, _&&_}
 use mathlib.Core.List.{List, [], _∷_, _++_, foldl}
 use Prim.Native.Nat.{ℕ, zero, suc, _+_, _-_, _/_, _^_, _<_, _≤_}
-use native.Mathlib.Nat.{zero-add, suc-add}
+use native.Mathlib.Nat.{suc-inj, zero-add, suc-add}
 use native.Mathlib.Omega.{arith}
 use lib.Bits.{bitXor}
 use lib.ListN.{length, take, drop}
@@ -17,7 +17,7 @@ use Rattle.preoutput.specs.declared.Registers.{Registers}
 use Rattle.preoutput.specs.declared.Run.{Run}
 use Rattle.preoutput.specs.declared.Adding.{Adding}
 use Rattle.preoutput.specs.Algebra.{single}
-use Rattle.preoutput.specs.Generator.{preoutput, clock, plain, fedBack, keyed}
+use Rattle.preoutput.specs.Generator.{preoutput, clock, plain, fedBack, keyed, fedBackWith}
 use Rattle.preoutput.specs.Words.{generatorOf}
 use Rattle.preoutput.specs.Running.{Running, Added, next, clocks, given, adds, Ways, runningOf, toLfsr, toNfsr}
 use Rattle.bits.proofs.Slides.{left-places}
@@ -76,7 +76,7 @@ next-words r a g y f out ey ef eg eo = λ i. record {
     low : lowest y ≡ preoutput single (generatorOf (r .registers))
     low = ap lowest ey ∙ lowest-digit (preoutput single (generatorOf (r .registers)))
 
--- The three ways of running.
+-- The four ways of running.
 clocks-plain : (n : ℕ) (r : Running) → clocks n (given []) (given []) r .generator ≡ times n (plain single) (r .generator)
 unfolding clocks next times
 clocks-plain zero r = refl
@@ -92,9 +92,16 @@ unfolding clocks next
 clocks-keyed [] r = refl
 clocks-keyed (k ∷ ks) r = clocks-keyed ks (next (λ y. k) (λ y. false) r)
 
+clocks-fed-back-with : (ks ls : List Bool) (r : Running) → length ks ≡ length ls → clocks (length ks) (adds true ks) (adds true ls) r .generator ≡ fedBackWith single (r .generator) ks ls
+unfolding clocks next fedBackWith
+clocks-fed-back-with [] ls r e = refl
+clocks-fed-back-with (k ∷ ks) [] r e = absurd (omega arith)
+clocks-fed-back-with (k ∷ ks) (l ∷ ls) r e = clocks-fed-back-with ks ls (next (λ y. y ⊻ k) (λ y. y ⊻ l) r) (suc-inj e)
+
 pub ways : (r : Running) → Ways r
 ways r = record {
   plain = λ n. clocks-plain n r;
   fedBack = λ n. ap (λ (u : Added). clocks n u u r .generator) (fun-ext (λ i. fun-ext (λ y. xor-false y))) ∙ clocks-fed-back n r;
   keyed = λ ks. clocks-keyed ks r;
+  fedBackWith = λ ks ls e. clocks-fed-back-with ks ls r e;
 }

@@ -47,3 +47,10 @@ module _ {A : Type 0} (over : Algebra A) where
   -- A key bit is added to the new LFSR bit only.
   abbrev pub keyed : Generator A → A → Generator A
   keyed g k = clock g k (over .zero)
+
+  -- A clock for each bit of two strings: the pre-output is added to both new bits, and so is a bit of the first string to the new LFSR bit and
+  -- one of the second to the new NFSR bit.
+  unfoldable pub fedBackWith : Generator A → (toLfsr toNfsr : List A) → Generator A
+  fedBackWith g [] ls = g
+  fedBackWith g (k ∷ ks) [] = g
+  fedBackWith g (k ∷ ks) (l ∷ ls) = fedBackWith (clock g (over .sum (preoutput g) k) (over .sum (preoutput g) l)) ks ls

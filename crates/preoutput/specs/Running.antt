@@ -11,7 +11,7 @@ use Rattle.bits.specs.Times.{times}
 use Rattle.preoutput.specs.declared.Run.{Run}
 use Rattle.preoutput.specs.declared.Adding.{Adding}
 use Rattle.preoutput.specs.Algebra.{single}
-use Rattle.preoutput.specs.Generator.{Generator, preoutput, clock, plain, fedBack, keyed}
+use Rattle.preoutput.specs.Generator.{Generator, preoutput, clock, plain, fedBack, keyed, fedBackWith}
 use Rattle.preoutput.specs.Words.{generatorOf}
 
 -- The generator, and a register that takes the pre-outputs.
@@ -43,11 +43,13 @@ given s i y = places s i
 abbrev pub adds : (fedBack : Bool) → List Bool → Added
 adds fedBack s i y = (fedBack && y) ⊻ places s i
 
--- The three ways of running are such clocks: plain running, the pre-output fed back, and any number of key bits added to the new LFSR bits.
+-- The four ways of running are such clocks: plain running, the pre-output fed back, any number of key bits added to the new LFSR bits, and
+-- the pre-output fed back with any number of key bits added to the new bits of both registers.
 pub record Ways (r : Running) : Type 0 where
   pub plain : (n : ℕ) → clocks n (given []) (given []) r .generator ≡ times n (plain single) (r .generator)
   pub fedBack : (n : ℕ) → clocks n (adds true []) (adds true []) r .generator ≡ times n (fedBack single) (r .generator)
   pub keyed : (ks : List Bool) → clocks (length ks) (given ks) (given []) r .generator ≡ foldl (keyed single) (r .generator) ks
+  pub fedBackWith : (ks ls : List Bool) → length ks ≡ length ls → clocks (length ks) (adds true ks) (adds true ls) r .generator ≡ fedBackWith single (r .generator) ks ls
 
 -- The same in words.
 unfoldable pub runningOf : Run → Running
