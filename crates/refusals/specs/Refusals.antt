@@ -1,10 +1,10 @@
--- Refusals: their numbers, rows, and the first row that applies (document 01, "When the box says no"; number 15, document 02, C-18).
+-- Refusals: their numbers, rows, and the first row that applies (document 01, "When the box says no"; numbers 15 and 23, document 02, C-18 and C-20).
 use mathlib.Core.Bool.{Bool, false, cond}
 use mathlib.Core.List.{List, [], _∷_}
 use Prim.Native.Nat.{ℕ}
 use lib.Dec.{eqb}
 use Rattle.refusals.specs.declared.Refusal.{Refusal}
-use Rattle.refusals.specs.declared.Refusal.the-variants.{KeySize, NonceSize, AdTooLong, MessageTooLong, SealedTooShort, OutputTooShort, TagDiffers, BlankKey}
+use Rattle.refusals.specs.declared.Refusal.the-variants.{KeySize, NonceSize, AdTooLong, MessageTooLong, SealedTooShort, OutputTooShort, TagDiffers, BlankKey, UnknownEdition}
 use Rattle.refusals.specs.declared.Check.{Check}
 use Rattle.refusals.specs.declared.Check.the-variants.{Passed, Failed}
 
@@ -17,6 +17,7 @@ number SealedTooShort = 5
 number OutputTooShort = 6
 number TagDiffers = 7
 number BlankKey = 15
+number UnknownEdition = 23
 
 -- A row of a call: a refusal, and whether it applies.
 pub record Row : Type 0 where

@@ -13,6 +13,7 @@ pub enum Refusal {
     OutputTooShort,
     TagDiffers,
     BlankKey,
+    UnknownEdition,
 }
 
 // What some rows of a call come to.
@@ -40,6 +41,7 @@ pub fn number(r: Refusal) -> u8
         Refusal::OutputTooShort => 6,
         Refusal::TagDiffers => 7,
         Refusal::BlankKey => 15,
+        Refusal::UnknownEdition => 23,
     }
 }
 
