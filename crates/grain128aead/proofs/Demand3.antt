@@ -9,11 +9,13 @@ use native.Mathlib.Nat.{le-of-eq, lt-of-le-of-lt}
 use native.Mathlib.Omega.{arith}
 use lib.ListN.{length, take, drop, length-append, length-drop, take-append-drop}
 use lib.Seq.{length-take-le}
-use Rattle.bits.specs.Bytes.{Bytes, bits, flip}
+use Rattle.bits.specs.Bytes.{Bytes}
 use Rattle.bits.specs.Strings.{_⊞_}
-use Rattle.bits.proofs.Flip.{Flips, length-flip, flip-flip, flip-append, sum-flip, length-sum-bits, flip-sum}
-use Rattle.bits.proofs.Packing.{bytes-are-bytes}
+use Rattle.bits.proofs.Flip.{Flips}
 use Rattle.bits.proofs.Sum.{sum-comm, sum-twice}
+use Rattle.machine.specs.declared.edition.Edition.{Edition}
+use Rattle.startup.specs.Editions.{bitsIn, flipIn}
+use Rattle.startup.proofs.Order.{length-flipIn, flipIn-are-bytes, flipIn-flipIn, flipIn-append, sum-flipIn, length-sum-bitsIn, flipIn-sum}
 use Rattle.payload.specs.Sizes.{tagSize}
 use Rattle.payload.specs.Payload.{ciphertext, deciphered, tag, payload, ciphertextPart, tagPart}
 use Rattle.payload.specs.TwoTags.{differingRegisters}
@@ -31,17 +33,17 @@ use Rattle.grain128aead.proofs.Demand2.{InOrder, legal-in-order}
 use Rattle.grain128aead.proofs.Substitution.{verdict, tag-part, authentic-sum}
 
 pub distinct : Distinct
-distinct ad message ad′ message′ b c b′ c′ l l′ = unambiguous ad message ad′ message′ b c b′ c′ (lt-of-le-of-lt l two-bytes) (lt-of-le-of-lt l′ two-bytes)
+distinct ed ad message ad′ message′ b c b′ c′ l l′ = unambiguous ed ad message ad′ message′ b c b′ c′ (lt-of-le-of-lt l two-bytes) (lt-of-le-of-lt l′ two-bytes)
 
 -- Three flips of which the first and the last are the same are the one in the middle.
-flip-between : (s : List ℕ) (k d : List Bool) → Flips s k → Flips s d → flip (flip (flip s k) d) k ≡ flip s d
-flip-between s k d hk hd =
-    flip-flip (flip s k) d k (hd ∙ ap (λ (n : ℕ). 8 * n) (sym (length-flip s k)))
-    ∙ flip-flip s k (d ⊞ k) hk
-    ∙ ap (λ (r : List Bool). flip s (k ⊞ r)) (sum-comm d k)
-    ∙ ap (flip s) (sum-twice k d (le-of-eq (hk ∙ sym hd)))
+flip-between : (ed : Edition) (s : List ℕ) (k d : List Bool) → Flips s k → Flips s d → flipIn ed (flipIn ed (flipIn ed s k) d) k ≡ flipIn ed s d
+flip-between ed s k d hk hd =
+    flipIn-flipIn ed (flipIn ed s k) d k (hd ∙ ap (λ (n : ℕ). 8 * n) (sym (length-flipIn ed s k)))
+    ∙ flipIn-flipIn ed s k (d ⊞ k) hk
+    ∙ ap (λ (r : List Bool). flipIn ed s (k ⊞ r)) (sum-comm d k)
+    ∙ ap (flipIn ed s) (sum-twice k d (le-of-eq (hk ∙ sym hd)))
 
-module _ {key nonce ad input : List ℕ} (f : Flipped key nonce ad input) where
+module _ {ed : Edition} {key nonce ad input : List ℕ} (f : Flipped ed key nonce ad input) where
   open Flipped f using (oldAd, oldMessage, inAd, inCiphertext, inTag)
 
   legal : Legal key nonce oldAd oldMessage
@@ -49,94 +51,93 @@ module _ {key nonce ad input : List ℕ} (f : Flipped key nonce ad input) where
 
   -- The input is the flipped ciphertext and the flipped tag.
   c′ : List ℕ
-  c′ = flip (ciphertext key nonce oldAd oldMessage) inCiphertext
+  c′ = flipIn ed (ciphertext ed key nonce oldAd oldMessage) inCiphertext
 
   t′ : List ℕ
-  t′ = flip (tag key nonce oldAd oldMessage) inTag
+  t′ = flipIn ed (tag ed key nonce oldAd oldMessage) inTag
 
   input-parts : input ≡ c′ ++ t′
   unfolding payload c′ t′
   input-parts =
-      f .flippedInput ∙ ap (λ (p : List ℕ). flip p (inCiphertext ++ inTag)) (sym (f .genuine .made))
-      ∙ flip-append (ciphertext key nonce oldAd oldMessage) (tag key nonce oldAd oldMessage) inCiphertext inTag
-      (f .ciphertextFlips ∙ ap (λ (n : ℕ). 8 * n) (sym (length-ciphertext key nonce oldAd oldMessage)))
+      f .flippedInput ∙ ap (λ (p : List ℕ). flipIn ed p (inCiphertext ++ inTag)) (sym (f .genuine .made))
+      ∙ flipIn-append ed (ciphertext ed key nonce oldAd oldMessage) (tag ed key nonce oldAd oldMessage) inCiphertext inTag
+      (f .ciphertextFlips ∙ ap (λ (n : ℕ). 8 * n) (sym (length-ciphertext ed key nonce oldAd oldMessage)))
 
   length-c′ : length c′ ≡ length oldMessage
   unfolding c′
-  length-c′ = length-flip (ciphertext key nonce oldAd oldMessage) inCiphertext ∙ length-ciphertext key nonce oldAd oldMessage
+  length-c′ = length-flipIn ed (ciphertext ed key nonce oldAd oldMessage) inCiphertext ∙ length-ciphertext ed key nonce oldAd oldMessage
 
   length-t′ : length t′ ≡ tagSize
   unfolding t′
-  length-t′ = length-flip (tag key nonce oldAd oldMessage) inTag ∙ length-tag key nonce oldAd oldMessage
+  length-t′ = length-flipIn ed (tag ed key nonce oldAd oldMessage) inTag ∙ length-tag ed key nonce oldAd oldMessage
 
   length-ad : length ad ≡ length oldAd
-  length-ad = ap length (f .flippedAd) ∙ length-flip oldAd inAd
+  length-ad = ap length (f .flippedAd) ∙ length-flipIn ed oldAd inAd
 
   -- It hides the old message with the ciphertext's flips.
-  recovers : recovered key nonce ad input ≡ flip oldMessage inCiphertext
+  recovers : recovered ed key nonce ad input ≡ flipIn ed oldMessage inCiphertext
   unfolding recovered c′
   recovers =
-      ap (deciphered key nonce ad) (ap ciphertextPart input-parts ∙ ciphertextPart-joined c′ t′ length-t′)
-      ∙ deciphered-flip key nonce ad c′
-      ∙ ap (λ (n : ℕ). flip c′ (under key nonce ad n)) length-c′
-      ∙ ap (flip c′) (under-same key nonce ad oldAd (length oldMessage) length-ad)
-      ∙ ap (λ (c : List ℕ). flip (flip c inCiphertext) (under key nonce oldAd (length oldMessage))) (ciphertext-flip key nonce oldAd oldMessage)
-      ∙ flip-between oldMessage (under key nonce oldAd (length oldMessage)) inCiphertext (length-under key nonce oldAd (length oldMessage)) (f .ciphertextFlips)
+      ap (deciphered ed key nonce ad) (ap ciphertextPart input-parts ∙ ciphertextPart-joined c′ t′ length-t′)
+      ∙ deciphered-flip ed key nonce ad c′
+      ∙ ap (λ (n : ℕ). flipIn ed c′ (under ed key nonce ad n)) length-c′
+      ∙ ap (flipIn ed c′) (under-same ed key nonce ad oldAd (length oldMessage) length-ad)
+      ∙ ap (λ (c : List ℕ). flipIn ed (flipIn ed c inCiphertext) (under ed key nonce oldAd (length oldMessage))) (ciphertext-flip ed key nonce oldAd oldMessage)
+      ∙ flip-between ed oldMessage (under ed key nonce oldAd (length oldMessage)) inCiphertext (length-under ed key nonce oldAd (length oldMessage)) (f .ciphertextFlips)
 
   -- Its tag is the genuine one with the tag's flips.
-  received-tag : tagPart input ≡ flip (tag key nonce oldAd oldMessage) inTag
+  received-tag : tagPart input ≡ flipIn ed (tag ed key nonce oldAd oldMessage) inTag
   unfolding t′
   received-tag = ap tagPart input-parts ∙ tagPart-joined c′ t′ length-t′
 
-  flipped-bytes : Bytes (flip (tag key nonce oldAd oldMessage) inTag)
-  unfolding flip
-  flipped-bytes = bytes-are-bytes _ _
+  flipped-bytes : Bytes (flipIn ed (tag ed key nonce oldAd oldMessage) inTag)
+  flipped-bytes = flipIn-are-bytes ed _ inTag
 
   pub equal-lengths : EqualLengths f
   equal-lengths = record {
     registers =
-        sym (flipped-lengths key nonce oldAd oldMessage inAd inCiphertext (legal .keySized) (legal .nonceSized) (f .adFlips) (f .ciphertextFlips))
-        ∙ ap₂ (differingRegisters key nonce oldAd oldMessage) (sym (f .flippedAd)) (sym recovers);
+        sym (flipped-lengths ed key nonce oldAd oldMessage inAd inCiphertext (legal .keySized) (legal .nonceSized) (f .adFlips) (f .ciphertextFlips))
+        ∙ ap₂ (differingRegisters ed key nonce oldAd oldMessage) (sym (f .flippedAd)) (sym recovers);
     tags =
-        sym (sum-flip (tag key nonce oldAd oldMessage) inTag (f .tagFlips ∙ ap (λ (n : ℕ). 8 * n) (sym (length-tag key nonce oldAd oldMessage))))
-        ∙ ap₂ (λ (s t : List ℕ). bits s ⊞ bits t) (sym (tag-part (genuine f))) (sym received-tag);
+        sym (sum-flipIn ed (tag ed key nonce oldAd oldMessage) inTag (f .tagFlips ∙ ap (λ (n : ℕ). 8 * n) (sym (length-tag ed key nonce oldAd oldMessage))))
+        ∙ ap₂ (λ (s t : List ℕ). bitsIn ed s ⊞ bitsIn ed t) (sym (tag-part (genuine f))) (sym received-tag);
     message = sym recovers;
   }
 
   -- So the condition on any tag is the one on flips.
-  authentic-agrees : Authentic key nonce ad input ↔ Agrees f
+  authentic-agrees : Authentic ed key nonce ad input ↔ Agrees f
   unfolding t′
   authentic-agrees =
       let by-sum = authentic-sum (genuine f) ad input (subst Bytes (sym received-tag) flipped-bytes) (ap length received-tag ∙ length-t′) in
       let e = equal-lengths in
       (λ a. e .registers ∙ by-sum .0 a ∙ sym (e .tags), λ agrees. by-sum .1 (sym (e .registers) ∙ agrees ∙ e .tags))
 
-  in-order : (out : List ℕ) → length oldMessage ≤ length out → InOrder key nonce ad input out
+  in-order : (out : List ℕ) → length oldMessage ≤ length out → InOrder ed key nonce ad input out
   in-order out room =
-      legal-in-order key nonce ad input out oldMessage
+      legal-in-order ed key nonce ad input out oldMessage
       record { keySized = legal .keySized; nonceSized = legal .nonceSized; keyNotBlank = legal .keyNotBlank; adFits = subst (λ (n : ℕ). n ≤ adLimit) (sym length-ad) (legal .adFits); messageFits = legal .messageFits }
       (ap length input-parts ∙ length-append c′ t′ ∙ ap₂ _+_ length-c′ length-t′)
       room
 
-pub demand3 : (key nonce ad input out : List ℕ) → Demand3 key nonce ad input out (opened key nonce ad input out)
-demand3 key nonce ad input out f room = verdict key nonce ad input out (in-order f out room) (authentic-agrees f) (recovers f)
+pub demand3 : (ed : Edition) (key nonce ad input out : List ℕ) → Demand3 ed key nonce ad input out (opened ed key nonce ad input out)
+demand3 ed key nonce ad input out f room = verdict ed key nonce ad input out (in-order f out room) (authentic-agrees f) (recovers f)
 
 -- The flips are the sums of the genuine strings and those that are opened.
 pub every-flip : EveryFlip
-every-flip key nonce ad input g b c la li = (
+every-flip ed key nonce ad input g b c la li = (
   record {
     oldAd = g .ad;
     oldMessage = g .message;
     oldPayload = g .payload;
     genuine = g .makes;
-    inAd = bits (g .ad) ⊞ bits ad;
+    inAd = bitsIn ed (g .ad) ⊞ bitsIn ed ad;
     inCiphertext = take n flips;
     inTag = drop n flips;
-    adFlips = length-sum-bits (g .ad) ad (sym la);
+    adFlips = length-sum-bitsIn ed (g .ad) ad (sym la);
     ciphertextFlips = length-take-le n flips (omega (arith, both, long));
     tagFlips = omega (arith, length-drop n flips, both, long);
-    flippedAd = sym (flip-sum (g .ad) ad b (sym la));
-    flippedInput = sym (ap (flip (g .payload)) (take-append-drop n flips) ∙ flip-sum (g .payload) input c (sym li));
+    flippedAd = sym (flipIn-sum ed (g .ad) ad b (sym la));
+    flippedInput = sym (ap (flipIn ed (g .payload)) (take-append-drop n flips) ∙ flipIn-sum ed (g .payload) input c (sym li));
   },
   refl,
 )
@@ -145,10 +146,10 @@ every-flip key nonce ad input g b c la li = (
     n = 8 * length (g .message)
 
     flips : List Bool
-    flips = bits (g .payload) ⊞ bits input
+    flips = bitsIn ed (g .payload) ⊞ bitsIn ed input
 
     both : Flips (g .payload) flips
-    both = length-sum-bits (g .payload) input (sym li)
+    both = length-sum-bitsIn ed (g .payload) input (sym li)
 
     long : length (g .payload) ≡ length (g .message) + tagSize
-    long = ap length (sym (g .makes .made)) ∙ length-payload key nonce (g .ad) (g .message)
+    long = ap length (sym (g .makes .made)) ∙ length-payload ed key nonce (g .ad) (g .message)

@@ -11,9 +11,9 @@ use Rattle.grain128aead.specs.LargestJob.{LargestJob, Largest}
 
 pub largest-job : LargestJob
 unfolding adLimit messageLimit codedLength stringBits jobClocks
-largest-job = record { bits = refl; clocks = refl }
+largest-job = record { bits = refl; firstClocks = refl; secondClocks = refl }
 
 pub largest : Largest
-largest key nonce ad message legal =
-    let grows = job-grows (length ad) (length message) adLimit messageLimit (legal .adFits) (legal .messageFits) in
-    (rw (length-authenticated ad message) (grows .0), grows .1)
+largest ed key nonce ad message legal =
+    let grows = job-grows ed (length ad) (length message) adLimit messageLimit (legal .adFits) (legal .messageFits) in
+    (rw (length-authenticated ed ad message) (grows .0), grows .1)

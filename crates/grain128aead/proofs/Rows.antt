@@ -14,6 +14,7 @@ use Rattle.refusals.specs.declared.Refusal.{Refusal}
 use Rattle.refusals.specs.declared.Refusal.the-variants.{KeySize, NonceSize, AdTooLong, MessageTooLong, SealedTooShort, OutputTooShort, TagDiffers, BlankKey}
 use Rattle.refusals.specs.Refusals.{among}
 use Rattle.refusals.proofs.Rows.{quiet-none, quiet-row}
+use Rattle.machine.specs.declared.edition.Edition.{Edition}
 use Rattle.startup.specs.Sizes.{keySize, nonceSize}
 use Rattle.startup.specs.BlankKey.{blankKey}
 use Rattle.startup.proofs.BlankKey.{not-blank, unequal-not-blank}
@@ -55,14 +56,14 @@ module _ (key nonce ad : List ℕ) (tooLong tooShort noRoom wrongTag : Bool) whe
       (quiet-row _ _ (clear .fits) (quiet-row _ _ (clear .reaches) (quiet-row _ _ (clear .room) (quiet-row _ _ (clear .authentic) quiet-none)))))))
 
 -- The tag part is the tag of the message that the input would have.
-abbrev pub Authentic : (key nonce ad input : List ℕ) → Type 0
-Authentic key nonce ad input = tagPart input ≡ tag key nonce ad (recovered key nonce ad input)
+abbrev pub Authentic : Edition → (key nonce ad input : List ℕ) → Type 0
+Authentic ed key nonce ad input = tagPart input ≡ tag ed key nonce ad (recovered ed key nonce ad input)
 
-module _ (key nonce ad input : List ℕ) where
-  pub tag-authentic : tagDiffers key nonce ad input ≡ false → Authentic key nonce ad input
+module _ (ed : Edition) (key nonce ad input : List ℕ) where
+  pub tag-authentic : tagDiffers ed key nonce ad input ≡ false → Authentic ed key nonce ad input
   unfolding tagDiffers
-  tag-authentic e = same-equal (tagPart input) (tag key nonce ad (recovered key nonce ad input)) (not-false (same (tagPart input) (tag key nonce ad (recovered key nonce ad input))) e)
+  tag-authentic e = same-equal (tagPart input) (tag ed key nonce ad (recovered ed key nonce ad input)) (not-false (same (tagPart input) (tag ed key nonce ad (recovered ed key nonce ad input))) e)
 
-  pub authentic-tag : Authentic key nonce ad input → tagDiffers key nonce ad input ≡ false
+  pub authentic-tag : Authentic ed key nonce ad input → tagDiffers ed key nonce ad input ≡ false
   unfolding tagDiffers
-  authentic-tag e = ap (λ (t : List ℕ). not (same t (tag key nonce ad (recovered key nonce ad input)))) e ∙ ap not (equal-same (tag key nonce ad (recovered key nonce ad input)))
+  authentic-tag e = ap (λ (t : List ℕ). not (same t (tag ed key nonce ad (recovered ed key nonce ad input)))) e ∙ ap not (equal-same (tag ed key nonce ad (recovered ed key nonce ad input)))

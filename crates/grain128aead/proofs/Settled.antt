@@ -11,6 +11,7 @@ use Rattle.refusals.specs.declared.Check.{Check}
 use Rattle.refusals.specs.Refusals.{among, after, check}
 use Rattle.refusals.specs.Outcome.{settled, judged}
 use Rattle.refusals.proofs.LastRow.{after-false, check-last}
+use Rattle.machine.specs.declared.edition.Edition.{Edition}
 use Rattle.payload.specs.Sizes.{tagSize}
 use Rattle.payload.specs.Payload.{payload}
 use Rattle.grain128aead.specs.Sizes.{messageLimit}
@@ -25,13 +26,13 @@ pub check-rows : (key nonce ad : List ℕ) (tooLong tooShort noRoom differs : Bo
 unfolding order table among check beforeTag
 check-rows key nonce ad tooLong tooShort noRoom differs = check-last beforeTag TagDiffers (rows key nonce ad tooLong tooShort noRoom differs)
 
-pub sealed-settled : (key nonce ad message out : List ℕ)
-    → sealed key nonce ad message out ≡ settled (judgement key nonce ad (ltb messageLimit (length message)) false (ltb (length out) (length message + tagSize))) (payload key nonce ad message) out
+pub sealed-settled : (ed : Edition) (key nonce ad message out : List ℕ)
+    → sealed ed key nonce ad message out ≡ settled (judgement key nonce ad (ltb messageLimit (length message)) false (ltb (length out) (length message + tagSize))) (payload ed key nonce ad message) out
 unfolding sealed judged
-sealed-settled key nonce ad message out = ap (λ (c : Check). settled c (payload key nonce ad message) out) (check-rows key nonce ad _ _ _ false ∙ after-false _ TagDiffers)
+sealed-settled ed key nonce ad message out = ap (λ (c : Check). settled c (payload ed key nonce ad message) out) (check-rows key nonce ad _ _ _ false ∙ after-false _ TagDiffers)
 
-pub opened-settled : (key nonce ad input out : List ℕ)
-    → opened key nonce ad input out
-    ≡ settled (after (judgement key nonce ad (ltb (messageLimit + tagSize) (length input)) (ltb (length input) tagSize) (ltb (length out) (length input - tagSize))) TagDiffers (tagDiffers key nonce ad input)) (recovered key nonce ad input) out
+pub opened-settled : (ed : Edition) (key nonce ad input out : List ℕ)
+    → opened ed key nonce ad input out
+    ≡ settled (after (judgement key nonce ad (ltb (messageLimit + tagSize) (length input)) (ltb (length input) tagSize) (ltb (length out) (length input - tagSize))) TagDiffers (tagDiffers ed key nonce ad input)) (recovered ed key nonce ad input) out
 unfolding opened judged
-opened-settled key nonce ad input out = ap (λ (c : Check). settled c (recovered key nonce ad input) out) (check-rows key nonce ad _ _ _ (tagDiffers key nonce ad input))
+opened-settled ed key nonce ad input out = ap (λ (c : Check). settled c (recovered ed key nonce ad input) out) (check-rows key nonce ad _ _ _ (tagDiffers ed key nonce ad input))

@@ -21,10 +21,10 @@ use Rattle.grain128aead.proofs.Settled.{judgement, check-rows, opened-s
 
 pub short-input : ShortInput
 unfolding judged
-short-input key nonce ad input out h wrongTag message =
-    opened-settled key nonce ad input out
-    ∙ ap (λ (c : Check). settled (after c TagDiffers (tagDiffers key nonce ad input)) (recovered key nonce ad input) out) sizes
-    ∙ settled-earlier (judgement key nonce ad false true false) TagDiffers (tagDiffers key nonce ad input) wrongTag (recovered key nonce ad input) message out
+short-input ed key nonce ad input out h wrongTag message =
+    opened-settled ed key nonce ad input out
+    ∙ ap (λ (c : Check). settled (after c TagDiffers (tagDiffers ed key nonce ad input)) (recovered ed key nonce ad input) out) sizes
+    ∙ settled-earlier (judgement key nonce ad false true false) TagDiffers (tagDiffers ed key nonce ad input) wrongTag (recovered ed key nonce ad input) message out
     (λ e. true≢false (passed-clear key nonce ad false true false e .reaches))
     ∙ sym (ap (λ (c : Check). settled c message out) (check-rows key nonce ad false true false wrongTag))
   where

@@ -12,6 +12,7 @@ use Rattle.refusals.specs.declared.Check.{Check}
 use Rattle.refusals.specs.declared.Check.the-variants.{Failed}
 use Rattle.refusals.specs.Refusals.{among, after, check}
 use Rattle.refusals.specs.Outcome.{settled}
+use Rattle.machine.specs.declared.edition.Edition.{Edition}
 use Rattle.startup.specs.Sizes.{nonceSize}
 use Rattle.startup.specs.BlankKey.{blankKey, isBlank}
 use Rattle.payload.specs.Payload.{payload}
@@ -29,11 +30,11 @@ module _ (nonce ad : List ℕ) (tooLong tooShort noRoom : Bool) where
       go true = refl
       go false = refl
 
-pub under-blank-key : (nonce ad out : List ℕ) → UnderBlankKey nonce ad out
+pub under-blank-key : (ed : Edition) (nonce ad out : List ℕ) → UnderBlankKey ed nonce ad out
 unfolding settled
-under-blank-key nonce ad out = record {
-  sealing = λ message. sealed-settled blankKey nonce ad message out ∙ ap (λ (c : Check). settled c (payload blankKey nonce ad message) out) (blank-judgement nonce ad _ _ _);
+under-blank-key ed nonce ad out = record {
+  sealing = λ message. sealed-settled ed blankKey nonce ad message out ∙ ap (λ (c : Check). settled c (payload ed blankKey nonce ad message) out) (blank-judgement nonce ad _ _ _);
   opening = λ input.
-      opened-settled blankKey nonce ad input out
-      ∙ ap (λ (c : Check). settled (after c TagDiffers (tagDiffers blankKey nonce ad input)) (recovered blankKey nonce ad input) out) (blank-judgement nonce ad _ _ _);
+      opened-settled ed blankKey nonce ad input out
+      ∙ ap (λ (c : Check). settled (after c TagDiffers (tagDiffers ed blankKey nonce ad input)) (recovered ed blankKey nonce ad input) out) (blank-judgement nonce ad _ _ _);
 }

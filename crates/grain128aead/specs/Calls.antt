@@ -1,5 +1,5 @@
--- Sealing and opening: from key, nonce, AD, message or sealed input and the lent output, byte strings of any length, to the answer and
--- the output afterwards (document 01, "When the box says no"; document 02, C-18).
+-- Sealing and opening in each edition: from key, nonce, AD, message or sealed input and the lent output, byte strings of any length, to the
+-- answer and the output afterwards (document 01, "When the box says no"; document 02, C-18).
 use mathlib.Core.Bool.{Bool, false, not}
 use mathlib.Core.List.{List, [], _∷_}
 use Prim.Native.Nat.{ℕ, _+_, _-_}
@@ -10,6 +10,7 @@ use Rattle.refusals.specs.declared.Refusal.{Refusal}
 use Rattle.refusals.specs.declared.Refusal.the-variants.{KeySize, NonceSize, AdTooLong, MessageTooLong, SealedTooShort, OutputTooShort, TagDiffers, BlankKey}
 use Rattle.refusals.specs.Refusals.{Row, _when_, among}
 use Rattle.refusals.specs.Outcome.{Outcome, judged}
+use Rattle.machine.specs.declared.edition.Edition.{Edition}
 use Rattle.startup.specs.Sizes.{keySize, nonceSize}
 use Rattle.startup.specs.BlankKey.{isBlank}
 use Rattle.payload.specs.Sizes.{tagSize}
@@ -35,25 +36,31 @@ abbrev pub rows : (key nonce ad : List ℕ) → (tooLong tooShort noRoom wrongTa
 rows key nonce ad tooLong tooShort noRoom wrongTag = among (table key nonce ad tooLong tooShort noRoom wrongTag)
 
 -- Rows 5 and 7 do not apply to sealing.
-abbrev pub sealingRow : (key nonce ad message out : List ℕ) → Refusal → Bool
-sealingRow key nonce ad message out =
-    rows key nonce ad (ltb messageLimit (length message)) false (ltb (length out) (length message + tagSize)) false
+abbrev pub sealingTable : (key nonce ad message out : List ℕ) → List Row
+sealingTable key nonce ad message out =
+    table key nonce ad (ltb messageLimit (length message)) false (ltb (length out) (length message + tagSize)) false
 
-unfoldable pub sealed : (key nonce ad message out : List ℕ) → Outcome
-sealed key nonce ad message out = judged order (sealingRow key nonce ad message out) (payload key nonce ad message) out
+abbrev pub sealingRow : (key nonce ad message out : List ℕ) → Refusal → Bool
+sealingRow key nonce ad message out = among (sealingTable key nonce ad message out)
+
+unfoldable pub sealed : Edition → (key nonce ad message out : List ℕ) → Outcome
+sealed e key nonce ad message out = judged order (sealingRow key nonce ad message out) (payload e key nonce ad message) out
 
 -- The message of a sealed input.
-unfoldable pub recovered : (key nonce ad input : List ℕ) → List ℕ
-recovered key nonce ad input = deciphered key nonce ad (ciphertextPart input)
+unfoldable pub recovered : Edition → (key nonce ad input : List ℕ) → List ℕ
+recovered e key nonce ad input = deciphered e key nonce ad (ciphertextPart input)
 
 -- The tag differs from the recomputed one.
-unfoldable pub tagDiffers : (key nonce ad input : List ℕ) → Bool
-tagDiffers key nonce ad input = not (same (tagPart input) (tag key nonce ad (recovered key nonce ad input)))
+unfoldable pub tagDiffers : Edition → (key nonce ad input : List ℕ) → Bool
+tagDiffers e key nonce ad input = not (same (tagPart input) (tag e key nonce ad (recovered e key nonce ad input)))
 
-abbrev pub openingRow : (key nonce ad input out : List ℕ) → Refusal → Bool
-openingRow key nonce ad input out =
-    rows key nonce ad (ltb (messageLimit + tagSize) (length input)) (ltb (length input) tagSize) (ltb (length out) (length input - tagSize))
-    (tagDiffers key nonce ad input)
+abbrev pub openingTable : Edition → (key nonce ad input out : List ℕ) → List Row
+openingTable e key nonce ad input out =
+    table key nonce ad (ltb (messageLimit + tagSize) (length input)) (ltb (length input) tagSize) (ltb (length out) (length input - tagSize))
+    (tagDiffers e key nonce ad input)
 
-unfoldable pub opened : (key nonce ad input out : List ℕ) → Outcome
-opened key nonce ad input out = judged order (openingRow key nonce ad input out) (recovered key nonce ad input) out
+abbrev pub openingRow : Edition → (key nonce ad input out : List ℕ) → Refusal → Bool
+openingRow e key nonce ad input out = among (openingTable e key nonce ad input out)
+
+unfoldable pub opened : Edition → (key nonce ad input out : List ℕ) → Outcome
+opened e key nonce ad input out = judged order (openingRow e key nonce ad input out) (recovered e key nonce ad input) out

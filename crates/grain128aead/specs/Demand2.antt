@@ -7,6 +7,7 @@ use lib.ListN.{length}
 use Rattle.bits.specs.Bytes.{Bytes}
 use Rattle.refusals.specs.Outcome.{Outcome, success}
 use Rattle.refusals.specs.Demand1.{Accepts}
+use Rattle.machine.specs.declared.edition.Edition.{Edition}
 use Rattle.startup.specs.Sizes.{keySize, nonceSize}
 use Rattle.startup.specs.BlankKey.{blankKey}
 use Rattle.payload.specs.Sizes.{tagSize}
@@ -23,19 +24,19 @@ pub record Legal (key nonce ad message : List ℕ) : Type 0 where
 
 -- The payload p is genuine for the key, the nonce and the AD: these rules make it from them and the message, all legal. The message is
 -- the old one of document 01.
-pub record Makes (key nonce ad message p : List ℕ) : Type 0 where
+pub record Makes (e : Edition) (key nonce ad message p : List ℕ) : Type 0 where
   pub isBytes : Bytes message
   pub legal : Legal key nonce ad message
-  pub made : payload key nonce ad message ≡ p
+  pub made : payload e key nonce ad message ≡ p
 
 -- Sealing succeeds exactly with what is legal and room for the payload, and then writes the payload.
-pub record Sealing (key nonce ad message out : List ℕ) (o : Outcome) : Type 0 where
+pub record Sealing (e : Edition) (key nonce ad message out : List ℕ) (o : Outcome) : Type 0 where
   pub accepts : Accepts o ↔ (Legal key nonce ad message × (length message + tagSize ≤ length out))
-  pub seals : Legal key nonce ad message → length message + tagSize ≤ length out → o ≡ success (payload key nonce ad message) out
+  pub seals : Legal key nonce ad message → length message + tagSize ≤ length out → o ≡ success (payload e key nonce ad message) out
 
 -- Opening accepts exactly when some message makes these very bytes, and there is room for it. It returns that message, and there is
 -- only one.
-pub record Demand2 (key nonce ad input out : List ℕ) (o : Outcome) : Type 0 where
-  pub accepts : Accepts o ↔ ((m : List ℕ) × Makes key nonce ad m input × (length m ≤ length out))
-  pub returns : (m : List ℕ) → Makes key nonce ad m input → length m ≤ length out → o ≡ success m out
-  pub unique : (m n : List ℕ) → Makes key nonce ad m input → Makes key nonce ad n input → m ≡ n
+pub record Demand2 (e : Edition) (key nonce ad input out : List ℕ) (o : Outcome) : Type 0 where
+  pub accepts : Accepts o ↔ ((m : List ℕ) × Makes e key nonce ad m input × (length m ≤ length out))
+  pub returns : (m : List ℕ) → Makes e key nonce ad m input → length m ≤ length out → o ≡ success m out
+  pub unique : (m n : List ℕ) → Makes e key nonce ad m input → Makes e key nonce ad n input → m ≡ n

@@ -6,3 +6,4 @@ pub mod Demand2
 pub mod LargestJob
 pub mod Demand3
 pub mod Substitution
+pub mod FirstEdition

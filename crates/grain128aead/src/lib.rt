@@ -1,36 +1,14 @@
-// Grain-128AEAD, first edition: sealing and opening of whole byte strings.
+// Grain-128AEAD: sealing and opening of whole byte strings. Where no edition is named, it is the first.
+pub mod by_edition;
 mod checks;
 pub mod limits;
 
 ghost use mathlib.Core.Path.{_≡_};
-ghost use lib.ListN.{length};
 ghost use Rattle.refusals.specs.Outcome.{outcome};
-ghost use Rattle.machine.specs.Engine.{stateOf};
-ghost use Rattle.startup.specs.Sizes.{keySize, nonceSize};
-ghost use Rattle.payload.specs.Payload.{begun, payload};
-ghost use Rattle.grain128aead.specs.Calls as calls;
-ghost use Rattle.grain128aead.specs.Demand1.{Demand1};
-ghost use Rattle.grain128aead.specs.Demand2.{Sealing, Demand2};
-ghost use Rattle.grain128aead.specs.Demand3.{Demand3};
-ghost use Rattle.grain128aead.specs.Substitution.{Substitution};
-use limits::MESSAGE_LIMIT;
-use machine::engine;
-use machine::engine::Engine;
+ghost use Rattle.grain128aead.specs.FirstEdition as calls;
+ghost use Rattle.grain128aead.specs.FirstEdition.{payload, Demand1, Sealing, Demand2, Demand3, Substitution};
+use machine::edition::Edition;
 use refusals::Answer;
-use refusals::Check;
-use refusals::Refusal;
-
-// The machine where the message begins.
-fn begin(key: &[u8], nonce: &[u8], ad: &[u8]) -> Engine
-    requires { ⌜ (length (now key) ≡ keySize) × (length (now nonce) ≡ nonceSize) ⌝ }
-    ensures { λ r. ⌜ stateOf r ≡ begun (now (key .entry)) (now (nonce .entry)) (now (ad .entry)) ⌝ }
-{
-    let mut k = [0u8; 16];
-    let mut n = [0u8; 12];
-    bytes::copy(key, &mut k);
-    bytes::copy(nonce, &mut n);
-    payload::header::begin(&k, &n, ad)
-}
 
 // Seals a message: the ciphertext and then the tag, at the front of the output.
 pub fn seal(key: &[u8], nonce: &[u8], ad: &[u8], message: &[u8], out: &mut [u8]) -> Answer
@@ -38,19 +16,7 @@ pub fn seal(key: &[u8], nonce: &[u8], ad: &[u8], message: &[u8], out: &mut [u8])
     ensures demand1 { λ r. ⌜ Demand1 (calls.sealingRow (now (key .entry)) (now (nonce .entry)) (now (ad .entry)) (now (message .entry)) (now (out .entry))) (payload (now (key .entry)) (now (nonce .entry)) (now (ad .entry)) (now (message .entry))) (now (out .entry)) (outcome r (now (out .exit))) ⌝ }
     ensures demand2 { λ r. ⌜ Sealing (now (key .entry)) (now (nonce .entry)) (now (ad .entry)) (now (message .entry)) (now (out .entry)) (outcome r (now (out .exit))) ⌝ }
 {
-    let n = message.len();
-    let too_long = MESSAGE_LIMIT < n;
-    let no_room = out.len() < n + 8;
-    match checks::judge(key, nonce, ad, too_long, false, no_room) {
-        Check::Failed(r) => Answer::Refused(r),
-        Check::Passed => {
-            let begun = begin(key, nonce, ad);
-            let done = strings::encipher_all(begun, message, out);
-            let end = n + 8;
-            bits::spell(engine::finish(done), &mut out[n..end]);
-            Answer::Count(end)
-        }
-    }
+    by_edition::seal(Edition::First, key, nonce, ad, message, out)
 }
 
 // Opens a sealed input: the message, at the front of the output. The tag is computed first, and nothing is written before it holds.
@@ -61,22 +27,5 @@ pub fn open(key: &[u8], nonce: &[u8], ad: &[u8], input: &[u8], out: &mut [u8]) -
     ensures demand3 { λ r. ⌜ Demand3 (now (key .entry)) (now (nonce .entry)) (now (ad .entry)) (now (input .entry)) (now (out .entry)) (outcome r (now (out .exit))) ⌝ }
     ensures substitution { λ r. ⌜ Substitution (now (key .entry)) (now (nonce .entry)) (now (ad .entry)) (now (input .entry)) (now (out .entry)) (outcome r (now (out .exit))) ⌝ }
 {
-    let n = input.len();
-    let too_long = MESSAGE_LIMIT + 8 < n;
-    let too_short = n < 8;
-    let no_room = out.len() + 8 < n;
-    match checks::judge(key, nonce, ad, too_long, too_short, no_room) {
-        Check::Failed(r) => Answer::Refused(r),
-        Check::Passed => {
-            let ciphertext = payload::parts::ciphertext_part(input);
-            let begun = begin(key, nonce, ad);
-            let done = strings::decipher_all(begun, ciphertext);
-            if engine::finish(done) == bits::number(payload::parts::tag_part(input)) {
-                strings::add_keystream(begun.registers, ciphertext, out);
-                Answer::Count(n - 8)
-            } else {
-                Answer::Refused(Refusal::TagDiffers)
-            }
-        }
-    }
+    by_edition::open(Edition::First, key, nonce, ad, input, out)
 }

@@ -26,15 +26,15 @@ use Rattle.authenticator.proofs.ClosedForm.{absorbAll-agrees}
 use Rattle.machine.specs.declared.engine.Engine.{Engine}
 use Rattle.machine.specs.Machine.{State, run, step, crypt}
 use Rattle.machine.specs.Engine.{stateOf}
-use Rattle.machine.proofs.Machine.{registerBits, registerBits-places, run-authenticator, crypt-sum}
+use Rattle.machine.proofs.Machine.{registerBits, registerBits-places, run-edition, run-authenticator, crypt-sum}
 use Rattle.machine.proofs.Clocks.{run-clocked}
 
 -- The engine after n bits of the string, the lowest of m, from their pairs of clocks.
 pub bits-run : (n : ℕ) (e : Engine) (m : ℕ) (s : Streamed) (t : Tagger) → n ≤ 64 → Streams n (generatorOf (e .registers)) s
     → authenticatorOf t ≡ absorbAll (authenticatorOf (e .tagger)) (word n m) (places (word n (s .authentication)))
-    → stateOf record { registers = s .registers; tagger = t } ≡ run (stateOf e) (word n m)
+    → stateOf record { edition = e .edition; registers = s .registers; tagger = t } ≡ run (stateOf e) (word n m)
 unfolding stateOf
-bits-run n e m s t fits streams absorbed = λ i. record { generator = ran i; authenticator = tagged i }
+bits-run n e m s t fits streams absorbed = λ i. record { edition = sym (run-edition st (word n m)) i; generator = ran i; authenticator = tagged i }
   where
     st : State
     st = stateOf e

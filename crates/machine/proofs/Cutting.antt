@@ -16,6 +16,7 @@ module _ (k w : ℕ) (left : k < w) where
   cut-step : (st : State) (m : Bool) → Sized w st → cut k (step st m) ≡ step (cut k st) m
   unfolding cut step
   cut-step st m sized = λ i. record {
+    edition = st .edition;
     generator = step st m .generator;
     authenticator = cutting k w left (st .authenticator) (sized .authenticator) .absorb m (preoutput single (plain single (st .generator))) i;
   }

@@ -3,5 +3,3 @@ pub mod Clocks
 pub mod Accumulator
 pub mod Cutting
 pub mod Bitwise
-pub mod OverBytes
-pub mod ByteStrings

@@ -23,6 +23,12 @@ pub run-append : (st : State) (s t : List Bool) → run st (s ++ t) ≡ run (run
 unfolding run
 run-append st s t = foldl-append step st s t
 
+-- No bit of the string alters the edition.
+pub run-edition : (st : State) (s : List Bool) → run st s .edition ≡ st .edition
+unfolding run step
+run-edition st [] = refl
+run-edition st (m ∷ s) = run-edition (step st m) s
+
 -- The generator sees no bit of the string.
 pub run-generator : (st st′ : State) (s t : List Bool) → st .generator ≡ st′ .generator → length s ≡ length t → run st s .generator ≡ run st′ t .generator
 unfolding run step

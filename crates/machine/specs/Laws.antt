@@ -71,7 +71,7 @@ AccumulatorSum =
 
 -- The machine without the first k places of accumulator and register.
 unfoldable pub cut : ℕ → State → State
-cut k st = record { generator = st .generator; authenticator = cutting.cut k (st .authenticator) }
+cut k st = record { edition = st .edition; generator = st .generator; authenticator = cutting.cut k (st .authenticator) }
 
 -- It runs as the whole one does, and gives the same keystream.
 pub record Cutting (k w : ℕ) (st : State) (s : List Bool) : Type 0 where

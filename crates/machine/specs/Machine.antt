@@ -6,9 +6,12 @@ use Rattle.bits.specs.Bit.{_⊻_}
 use Rattle.preoutput.specs.Algebra.{single}
 use Rattle.preoutput.specs.Generator.{Generator, preoutput, plain}
 use Rattle.authenticator.specs.Authenticator.{Authenticator, absorb}
+use Rattle.machine.specs.declared.edition.Edition.{Edition}
 
--- The LFSR and the NFSR are the generator's, the accumulator and the register the authenticator's.
+-- The LFSR and the NFSR are the generator's, the accumulator and the register the authenticator's. The edition is carried along, so that what goes by it
+-- can't be taken from another one; no clock looks at it.
 pub record State : Type 0 where
+  pub edition : Edition
   pub generator : Generator Bool
   pub authenticator : Authenticator
 
@@ -20,6 +23,7 @@ keystreamBit st = preoutput single (st .generator)
 -- been added into the accumulator if the bit is 1.
 unfoldable pub step : State → Bool → State
 step st m = record {
+  edition = st .edition;
   generator = plain single (plain single (st .generator));
   authenticator = absorb (st .authenticator) m (preoutput single (plain single (st .generator)));
 }

@@ -7,12 +7,15 @@ ghost use Rattle.preoutput.specs.Words.{generatorOf};
 ghost use Rattle.strokes.specs.Streams.{Streams};
 ghost use Rattle.machine.specs.Machine.{run};
 ghost use Rattle.machine.specs.Engine.{stateOf, Crypts};
+use crate::edition::Edition;
 use authenticator::Tagger;
 use preoutput::Registers;
 use strokes::streams;
 use strokes::streams::Streamed;
 
+// The machine carries its edition along; no clock looks at it.
 pub struct Engine {
+    pub edition: Edition,
     pub registers: Registers,
     pub tagger: Tagger,
 }
@@ -22,8 +25,10 @@ fn after(e: Engine, m: u8, s: Streamed) -> Engine
     requires { ⌜ Streams 8 (generatorOf (e .registers)) s ⌝ }
     ensures { λ r. ⌜ stateOf r ≡ run (stateOf e) (word 8 m) ⌝ }
 {
+    let edition = e.edition;
     let registers = s.registers;
     Engine {
+        edition,
         registers,
         tagger: authenticator::absorb_byte(e.tagger, bits::wide(m), s.authentication),
     }
@@ -61,8 +66,10 @@ fn after_word(e: Engine, m: u64, s: Streamed) -> Engine
     requires { ⌜ Streams 32 (generatorOf (e .registers)) s ⌝ }
     ensures { λ r. ⌜ stateOf r ≡ run (stateOf e) (word 32 m) ⌝ }
 {
+    let edition = e.edition;
     let registers = s.registers;
     Engine {
+        edition,
         registers,
         tagger: authenticator::absorb_word(e.tagger, m, s.authentication),
     }

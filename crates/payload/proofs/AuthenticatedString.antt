@@ -7,8 +7,11 @@ use Prim.Native.Nat.{ℕ, _<_}
 use native.Mathlib.Omega.{arith}
 use lib.ListN.{length, take, drop, length-append}
 use lib.Seq.{take-at, drop-at}
-use Rattle.bits.specs.Bytes.{Bytes, bits}
-use Rattle.bits.proofs.Packing.{bits-append, length-bits, bits-injective, Bytes-append}
+use Rattle.bits.specs.Bytes.{Bytes}
+use Rattle.bits.proofs.Packing.{Bytes-append}
+use Rattle.machine.specs.declared.edition.Edition.{Edition}
+use Rattle.startup.specs.Editions.{bitsIn}
+use Rattle.startup.proofs.Order.{bitsIn-append, length-bitsIn, bitsIn-injective}
 use Rattle.payload.specs.AuthenticatedString.{codedLength, header, authenticated}
 use Rattle.payload.specs.Job.{stringBits}
 use Rattle.payload.specs.Laws.{Unambiguous}
@@ -22,29 +25,29 @@ append-split s t u v l e = (
 )
 
 -- The string is the bits of its bytes, and the 1.
-authenticated-bits : (ad message : List ℕ) → authenticated ad message ≡ bits (codedLength (length ad) ++ (ad ++ message)) ++ (true ∷ [])
+authenticated-bits : (ed : Edition) (ad message : List ℕ) → authenticated ed ad message ≡ bitsIn ed (codedLength (length ad) ++ (ad ++ message)) ++ (true ∷ [])
 unfolding authenticated header
-authenticated-bits ad message = simp (bits-append, append-assoc)
+authenticated-bits ed ad message = simp (bitsIn-append ed, append-assoc)
 
-pub length-authenticated : (ad message : List ℕ) → length (authenticated ad message) ≡ stringBits (length ad) (length message)
+pub length-authenticated : (ed : Edition) (ad message : List ℕ) → length (authenticated ed ad message) ≡ stringBits (length ad) (length message)
 unfolding stringBits
-length-authenticated ad message =
-    ap length (authenticated-bits ad message)
-    ∙ omega (arith, length-append (bits all) (true ∷ []), length-bits all, length-append (codedLength (length ad)) (ad ++ message), length-append ad message)
+length-authenticated ed ad message =
+    ap length (authenticated-bits ed ad message)
+    ∙ omega (arith, length-append (bitsIn ed all) (true ∷ []), length-bitsIn ed all, length-append (codedLength (length ad)) (ad ++ message), length-append ad message)
   where
     all : List ℕ
     all = codedLength (length ad) ++ (ad ++ message)
 
 pub unambiguous : Unambiguous
-unambiguous ad message ad′ message′ had hm had′ hm′ l l′ e = append-split ad message ad′ message′ (coded .0) (coded .1)
+unambiguous ed ad message ad′ message′ had hm had′ hm′ l l′ e = append-split ad message ad′ message′ (coded .0) (coded .1)
   where
     joined : (ad message : List ℕ) → Bytes ad → Bytes message → length ad < 65536 → Bytes (codedLength (length ad) ++ (ad ++ message))
     joined ad message h k fits = Bytes-append (codedLength (length ad)) (ad ++ message) (distinguished (length ad) fits .bytes) (Bytes-append ad message h k)
 
     whole : codedLength (length ad) ++ (ad ++ message) ≡ codedLength (length ad′) ++ (ad′ ++ message′)
     whole =
-        bits-injective _ _ (joined ad message had hm l) (joined ad′ message′ had′ hm′ l′)
-        (append-cancel-right _ _ (true ∷ []) (sym (authenticated-bits ad message) ∙ e ∙ authenticated-bits ad′ message′))
+        bitsIn-injective ed _ _ (joined ad message had hm l) (joined ad′ message′ had′ hm′ l′)
+        (append-cancel-right _ _ (true ∷ []) (sym (authenticated-bits ed ad message) ∙ e ∙ authenticated-bits ed ad′ message′))
 
     coded : (length ad ≡ length ad′) × (ad ++ message ≡ ad′ ++ message′)
     coded = coded-prefix (length ad) (length ad′) (ad ++ message) (ad′ ++ message′) l l′ whole

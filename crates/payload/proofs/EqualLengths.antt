@@ -6,17 +6,17 @@ use mathlib.Core.List.{List, [], _∷_, _++_, append-assoc}
 use Prim.Native.Nat.{ℕ}
 use lib.Dec.{lit<}
 use lib.ListN.{length}
-use Rattle.bits.specs.Bytes.{bits, flip}
 use Rattle.bits.specs.Strings.{_⊞_, zeros}
-use Rattle.bits.proofs.Flip.{Flips, length-flip, sum-flip}
-use Rattle.bits.proofs.Packing.{length-bits, as-many-bits}
+use Rattle.bits.proofs.Flip.{Flips}
 use Rattle.bits.proofs.Sum.{sum-append, sum-self}
 use Rattle.authenticator.specs.ClosedForm.{registersAt}
 use Rattle.authenticator.proofs.Linear.{registersAt-between}
+use Rattle.machine.specs.declared.edition.Edition.{Edition}
 use Rattle.machine.specs.Laws as machine
 use Rattle.machine.proofs.Accumulator.{length-registerAt}
 use Rattle.startup.specs.Sizes.{keySize, nonceSize}
-use Rattle.startup.specs.StartUp.{initialised}
+use Rattle.startup.specs.Editions.{bitsIn, flipIn, initialised}
+use Rattle.startup.proofs.Order.{length-bitsIn, as-many-bitsIn, length-flipIn, sum-flipIn}
 use Rattle.startup.proofs.Sizes.{initialised-sized}
 use Rattle.payload.specs.AuthenticatedString.{codedLength, header, authenticated}
 use Rattle.payload.specs.Laws.{registerAt, flippedRegisters}
@@ -35,24 +35,24 @@ string-sum c a m a′ m′ la lm =
 
 pub equal-lengths : EqualLengths
 unfolding differingRegisters machine.differingRegisters flippedRegisters authenticated header
-equal-lengths key nonce ad message ad′ message′ k n la lm =
-    ap (λ (len : ℕ). at 0 (authenticated ad message ⊞ (bits (codedLength len) ++ bits ad′ ++ bits message′ ++ (true ∷ [])))) (sym la)
-    ∙ ap (at 0) (string-sum coded (bits ad) (bits message) (bits ad′) (bits message′) (as-many-bits ad ad′ la) (as-many-bits message message′ lm))
-    ∙ registersAt-between 64 (registerAt key nonce) wide (length coded) 1 ((bits ad ⊞ bits ad′) ++ (bits message ⊞ bits message′))
-    ∙ ap (λ (i : ℕ). at i ((bits ad ⊞ bits ad′) ++ (bits message ⊞ bits message′))) (length-bits (codedLength (length ad)))
+equal-lengths ed key nonce ad message ad′ message′ k n la lm =
+    ap (λ (len : ℕ). at 0 (authenticated ed ad message ⊞ (bitsIn ed (codedLength len) ++ bitsIn ed ad′ ++ bitsIn ed message′ ++ (true ∷ [])))) (sym la)
+    ∙ ap (at 0) (string-sum coded (bitsIn ed ad) (bitsIn ed message) (bitsIn ed ad′) (bitsIn ed message′) (as-many-bitsIn ed ad ad′ la) (as-many-bitsIn ed message message′ lm))
+    ∙ registersAt-between 64 (registerAt ed key nonce) wide (length coded) 1 ((bitsIn ed ad ⊞ bitsIn ed ad′) ++ (bitsIn ed message ⊞ bitsIn ed message′))
+    ∙ ap (λ (i : ℕ). at i ((bitsIn ed ad ⊞ bitsIn ed ad′) ++ (bitsIn ed message ⊞ bitsIn ed message′))) (length-bitsIn ed (codedLength (length ad)))
   where
     coded : List Bool
-    coded = bits (codedLength (length ad))
+    coded = bitsIn ed (codedLength (length ad))
 
     at : ℕ → List Bool → List Bool
-    at = registersAt 64 (registerAt key nonce)
+    at = registersAt 64 (registerAt ed key nonce)
 
-    wide : (i : ℕ) → length (registerAt key nonce i) ≡ 64
-    wide = length-registerAt 64 (initialised key nonce) (lit< tt) (initialised-sized key nonce k n)
+    wide : (i : ℕ) → length (registerAt ed key nonce i) ≡ 64
+    wide = length-registerAt 64 (initialised ed key nonce) (lit< tt) (initialised-sized ed key nonce k n)
 
 -- Flips leave the lengths as they are.
-pub flipped-lengths : (key nonce ad message : List ℕ) (d e : List Bool) → length key ≡ keySize → length nonce ≡ nonceSize → Flips ad d → Flips message e
-    → differingRegisters key nonce ad message (flip ad d) (flip message e) ≡ flippedRegisters key nonce ad d e
-flipped-lengths key nonce ad message d e k n hd he =
-    equal-lengths key nonce ad message (flip ad d) (flip message e) k n (sym (length-flip ad d)) (sym (length-flip message e))
-    ∙ ap₂ (flippedRegisters key nonce ad) (sum-flip ad d hd) (sum-flip message e he)
+pub flipped-lengths : (ed : Edition) (key nonce ad message : List ℕ) (d e : List Bool) → length key ≡ keySize → length nonce ≡ nonceSize → Flips ad d → Flips message e
+    → differingRegisters ed key nonce ad message (flipIn ed ad d) (flipIn ed message e) ≡ flippedRegisters ed key nonce ad d e
+flipped-lengths ed key nonce ad message d e k n hd he =
+    equal-lengths ed key nonce ad message (flipIn ed ad d) (flipIn ed message e) k n (sym (length-flipIn ed ad d)) (sym (length-flipIn ed message e))
+    ∙ ap₂ (flippedRegisters ed key nonce ad) (sum-flipIn ed ad d hd) (sum-flipIn ed message e he)

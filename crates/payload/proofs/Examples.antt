@@ -5,9 +5,10 @@ use Rattle.bits.specs.Bytes.{word, bits}
 use Rattle.preoutput.specs.Generator.{preoutput, clock}
 use Rattle.authenticator.specs.Authenticator.{absorb, add, move}
 use Rattle.startup.specs.StartUp.{loaded}
+use Rattle.startup.specs.Editions.{ordered, bitsIn}
 use Rattle.payload.specs.AuthenticatedString.{codedLength, header, authenticated}
 use Rattle.payload.specs.Examples.{Starred}
 
 pub starred : Starred
-unfolding codedLength header authenticated bits word loaded preoutput clock absorb add move
+unfolding ordered bitsIn codedLength header authenticated bits word loaded preoutput clock absorb add move
 starred = refl

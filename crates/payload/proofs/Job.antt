@@ -9,7 +9,9 @@ use Rattle.bits.specs.Times.{inTurn}
 use Rattle.bits.proofs.Times.{inTurn-append, inTurn-replicate}
 use Rattle.preoutput.specs.Algebra.{single}
 use Rattle.preoutput.specs.Generator.{plain}
-use Rattle.startup.specs.StartUp.{loaded, initialised}
+use Rattle.machine.specs.declared.edition.Edition.{Edition}
+use Rattle.startup.specs.StartUp.{loaded}
+use Rattle.startup.specs.Editions.{bitsIn, initialised}
 use Rattle.startup.specs.Laws.{startUpClocks}
 use Rattle.startup.proofs.Clocks as startUp
 use Rattle.machine.proofs.Clocks.{run-clocked}
@@ -19,23 +21,23 @@ use Rattle.payload.specs.Laws.{clocksOf, Clocked, JobGrows}
 use Rattle.payload.proofs.CodedLength.{coded-grows}
 use Rattle.payload.proofs.AuthenticatedString.{length-authenticated}
 
-pub clocked : (key nonce ad message : List ℕ) → Clocked key nonce ad message
+pub clocked : (ed : Edition) (key nonce ad message : List ℕ) → Clocked ed key nonce ad message
 unfolding clocksOf jobClocks
-clocked key nonce ad message =
-    let n = 2 * length (authenticated ad message) in
+clocked ed key nonce ad message =
+    let n = 2 * length (authenticated ed ad message) in
     let running = replicate n (plain single) in
-    let begun = startUp.clocked key nonce in
+    let begun = startUp.clocked ed key nonce in
     record {
-      count = λ k. omega (arith, length-append (startUpClocks key) running, begun .count k, length-replicate n (plain single), length-authenticated ad message);
+      count = λ k. omega (arith, length-append (startUpClocks ed key) running, begun .count k, length-replicate n (plain single), length-authenticated ed ad message);
       lead =
-          inTurn-append (startUpClocks key) running (loaded key nonce)
+          inTurn-append (startUpClocks ed key) running (loaded (bitsIn ed key) (bitsIn ed nonce))
           ∙ ap (inTurn running) (begun .lead)
-          ∙ inTurn-replicate n (plain single) (initialised key nonce .generator)
-          ∙ sym (run-clocked (initialised key nonce) (authenticated ad message));
+          ∙ inTurn-replicate n (plain single) (initialised ed key nonce .generator)
+          ∙ sym (run-clocked (initialised ed key nonce) (authenticated ed ad message));
     }
 
 pub job-grows : JobGrows
 unfolding stringBits jobClocks
-job-grows a m a′ m′ h k =
+job-grows ed a m a′ m′ h k =
     let coded = coded-grows a a′ h in
     (omega (arith, coded), omega (arith, coded))

@@ -2,6 +2,7 @@ pub mod CodedLength
 pub mod AuthenticatedString
 pub mod Job
 pub mod Payload
+pub mod Begun
 pub mod Machine
 pub mod TwoTags
 pub mod EqualLengths

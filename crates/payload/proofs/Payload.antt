@@ -9,15 +9,17 @@ use borrow.Author.Tests.{ltb-true, ltb-false, lt-ltb, le-ltb}
 use lib.Dec.{ltb}
 use lib.ListN.{length, take, drop, length-append, take-append-drop, length-drop}
 use lib.Seq.{take-at, drop-at}
-use Rattle.bits.specs.Bytes.{Bytes, bits, flip}
-use Rattle.bits.proofs.Packing.{length-bits, length-bytes, bytes-are-bytes, Bytes-take, Bytes-drop}
+use Rattle.bits.specs.Bytes.{Bytes}
+use Rattle.bits.proofs.Packing.{Bytes-take, Bytes-drop}
 use Rattle.preoutput.specs.Algebra.{single}
 use Rattle.preoutput.specs.Generator.{Generator, everySecond}
+use Rattle.machine.specs.declared.edition.Edition.{Edition}
 use Rattle.machine.specs.Machine.{encipher, decipher}
 use Rattle.machine.proofs.Machine.{run-generator}
-use Rattle.machine.proofs.OverBytes.{cryptBytes}
-use Rattle.machine.proofs.ByteStrings.{keystreamUnder, length-keystreamUnder, bits-cryptBytes, cryptBytes-flip, cryptBytes-twice}
-use Rattle.startup.specs.StartUp.{initialised}
+use Rattle.strings.proofs.OverBytes.{cryptBytes}
+use Rattle.strings.proofs.ByteStrings.{keystreamUnder, length-keystreamUnder, bitsIn-cryptBytes, cryptBytes-flip, cryptBytes-twice}
+use Rattle.startup.specs.Editions.{bitsIn, flipIn, initialised}
+use Rattle.startup.proofs.Order.{length-bitsIn, length-bytesIn, bytesIn-are-bytes}
 use Rattle.payload.specs.Sizes.{tagSize}
 use Rattle.payload.specs.AuthenticatedString.{codedLength, header}
 use Rattle.payload.specs.Payload.{begun, ciphertext, deciphered, tag, payload, ciphertextPart, tagPart}
@@ -83,38 +85,38 @@ tagPart-bytes input b = subst Bytes (parts input .behind) (Bytes-drop (length (c
 
 -- ---- lengths
 
-module _ (key nonce ad : List ℕ) where
-  pub length-ciphertext : (message : List ℕ) → length (ciphertext key nonce ad message) ≡ length message
+module _ (ed : Edition) (key nonce ad : List ℕ) where
+  pub length-ciphertext : (message : List ℕ) → length (ciphertext ed key nonce ad message) ≡ length message
   unfolding ciphertext
-  length-ciphertext message = length-bytes (length message) (encipher (begun key nonce ad) (bits message))
+  length-ciphertext message = length-bytesIn ed (length message) (encipher (begun ed key nonce ad) (bitsIn ed message))
 
-  pub ciphertext-bits : (message : List ℕ) → bits (ciphertext key nonce ad message) ≡ encipher (begun key nonce ad) (bits message)
+  pub ciphertext-bits : (message : List ℕ) → bitsIn ed (ciphertext ed key nonce ad message) ≡ encipher (begun ed key nonce ad) (bitsIn ed message)
   unfolding ciphertext cryptBytes
-  ciphertext-bits message = bits-cryptBytes (begun key nonce ad) true message
+  ciphertext-bits message = bitsIn-cryptBytes ed (begun ed key nonce ad) true message
 
-  pub deciphered-bits : (c : List ℕ) → bits (deciphered key nonce ad c) ≡ decipher (begun key nonce ad) (bits c)
+  pub deciphered-bits : (c : List ℕ) → bitsIn ed (deciphered ed key nonce ad c) ≡ decipher (begun ed key nonce ad) (bitsIn ed c)
   unfolding deciphered cryptBytes
-  deciphered-bits c = bits-cryptBytes (begun key nonce ad) false c
+  deciphered-bits c = bitsIn-cryptBytes ed (begun ed key nonce ad) false c
 
-  pub length-deciphered : (c : List ℕ) → length (deciphered key nonce ad c) ≡ length c
+  pub length-deciphered : (c : List ℕ) → length (deciphered ed key nonce ad c) ≡ length c
   unfolding deciphered
-  length-deciphered c = length-bytes (length c) (decipher (begun key nonce ad) (bits c))
+  length-deciphered c = length-bytesIn ed (length c) (decipher (begun ed key nonce ad) (bitsIn ed c))
 
-  pub deciphered-bytes : (c : List ℕ) → Bytes (deciphered key nonce ad c)
+  pub deciphered-bytes : (c : List ℕ) → Bytes (deciphered ed key nonce ad c)
   unfolding deciphered
-  deciphered-bytes c = bytes-are-bytes (length c) (decipher (begun key nonce ad) (bits c))
+  deciphered-bytes c = bytesIn-are-bytes ed (length c) (decipher (begun ed key nonce ad) (bitsIn ed c))
 
-  pub length-tag : (message : List ℕ) → length (tag key nonce ad message) ≡ tagSize
+  pub length-tag : (message : List ℕ) → length (tag ed key nonce ad message) ≡ tagSize
   unfolding tag
-  length-tag message = length-bytes tagSize _
+  length-tag message = length-bytesIn ed tagSize _
 
-  pub length-payload : (message : List ℕ) → length (payload key nonce ad message) ≡ length message + tagSize
+  pub length-payload : (message : List ℕ) → length (payload ed key nonce ad message) ≡ length message + tagSize
   unfolding payload
-  length-payload message = length-append (ciphertext key nonce ad message) (tag key nonce ad message) ∙ ap₂ _+_ (length-ciphertext message) (length-tag message)
+  length-payload message = length-append (ciphertext ed key nonce ad message) (tag ed key nonce ad message) ∙ ap₂ _+_ (length-ciphertext message) (length-tag message)
 
-  pub lengths : (message : List ℕ) → Lengths key nonce ad message
+  pub lengths : (message : List ℕ) → Lengths ed key nonce ad message
   lengths message = record {
-    string = length-authenticated ad message;
+    string = length-authenticated ed ad message;
     ciphertext = length-ciphertext message;
     tag = length-tag message;
     payload = length-payload message;
@@ -124,35 +126,35 @@ module _ (key nonce ad : List ℕ) where
 
   -- The keystream bits under n message bytes.
   abbrev pub under : ℕ → List Bool
-  under = keystreamUnder (begun key nonce ad)
+  under = keystreamUnder (begun ed key nonce ad)
 
   pub length-under : (n : ℕ) → length (under n) ≡ 8 * n
-  length-under = length-keystreamUnder (begun key nonce ad)
+  length-under = length-keystreamUnder (begun ed key nonce ad)
 
-  pub ciphertext-flip : (message : List ℕ) → ciphertext key nonce ad message ≡ flip message (under (length message))
+  pub ciphertext-flip : (message : List ℕ) → ciphertext ed key nonce ad message ≡ flipIn ed message (under (length message))
   unfolding ciphertext cryptBytes
-  ciphertext-flip = cryptBytes-flip (begun key nonce ad) true
+  ciphertext-flip = cryptBytes-flip ed (begun ed key nonce ad) true
 
-  pub deciphered-flip : (c : List ℕ) → deciphered key nonce ad c ≡ flip c (under (length c))
+  pub deciphered-flip : (c : List ℕ) → deciphered ed key nonce ad c ≡ flipIn ed c (under (length c))
   unfolding deciphered cryptBytes
-  deciphered-flip = cryptBytes-flip (begun key nonce ad) false
+  deciphered-flip = cryptBytes-flip ed (begun ed key nonce ad) false
 
-  pub deciphered-ciphertext : (message : List ℕ) → Bytes message → deciphered key nonce ad (ciphertext key nonce ad message) ≡ message
+  pub deciphered-ciphertext : (message : List ℕ) → Bytes message → deciphered ed key nonce ad (ciphertext ed key nonce ad message) ≡ message
   unfolding ciphertext deciphered cryptBytes
-  deciphered-ciphertext = cryptBytes-twice (begun key nonce ad) true false
+  deciphered-ciphertext = cryptBytes-twice ed (begun ed key nonce ad) true false
 
-  pub ciphertext-deciphered : (c : List ℕ) → Bytes c → ciphertext key nonce ad (deciphered key nonce ad c) ≡ c
+  pub ciphertext-deciphered : (c : List ℕ) → Bytes c → ciphertext ed key nonce ad (deciphered ed key nonce ad c) ≡ c
   unfolding ciphertext deciphered cryptBytes
-  ciphertext-deciphered = cryptBytes-twice (begun key nonce ad) false true
+  ciphertext-deciphered = cryptBytes-twice ed (begun ed key nonce ad) false true
 
-length-header : (ad : List ℕ) → length (header ad) ≡ 8 * (length (codedLength (length ad)) + length ad)
+length-header : (ed : Edition) (ad : List ℕ) → length (header ed ad) ≡ 8 * (length (codedLength (length ad)) + length ad)
 unfolding header
-length-header ad = omega (arith, length-append (bits (codedLength (length ad))) (bits ad), length-bits (codedLength (length ad)), length-bits ad)
+length-header ed ad = omega (arith, length-append (bitsIn ed (codedLength (length ad))) (bitsIn ed ad), length-bitsIn ed (codedLength (length ad)), length-bitsIn ed ad)
 
 -- The keystream under the message does not see the bits of the AD.
-pub under-same : (key nonce ad ad′ : List ℕ) (n : ℕ) → length ad ≡ length ad′ → under key nonce ad n ≡ under key nonce ad′ n
+pub under-same : (ed : Edition) (key nonce ad ad′ : List ℕ) (n : ℕ) → length ad ≡ length ad′ → under ed key nonce ad n ≡ under ed key nonce ad′ n
 unfolding keystreamUnder begun
-under-same key nonce ad ad′ n e =
+under-same ed key nonce ad ad′ n e =
     ap (λ (g : Generator Bool). everySecond single (8 * n) g)
-    (run-generator (initialised key nonce) (initialised key nonce) (header ad) (header ad′) refl
-    (length-header ad ∙ ap (λ (k : ℕ). 8 * (length (codedLength k) + k)) e ∙ sym (length-header ad′)))
+    (run-generator (initialised ed key nonce) (initialised ed key nonce) (header ed ad) (header ed ad′) refl
+    (length-header ed ad ∙ ap (λ (k : ℕ). 8 * (length (codedLength k) + k)) e ∙ sym (length-header ed ad′)))

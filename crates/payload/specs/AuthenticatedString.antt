@@ -1,4 +1,4 @@
--- The authenticated string (document 01, "Running and the tag"; the coded length: document 02, C-12).
+-- The authenticated string (document 01, "Running and the tag"; the coded length: document 02, C-12; its order of bits, the edition's).
 use mathlib.Core.Path.{_≡_}
 use mathlib.Core.Logic.{_≢_}
 use mathlib.Core.Bool.{Bool, true, cond, _&&_}
@@ -8,6 +8,8 @@ use Prim.Native.Nat.{ℕ, _-_, _/_, _%_, _<_}
 use lib.Dec.{leb, ltb}
 use lib.ListN.{length, take, drop}
 use Rattle.bits.specs.Bytes.{Bytes, bits, value}
+use Rattle.machine.specs.declared.edition.Edition.{Edition}
+use Rattle.startup.specs.Editions.{bitsIn}
 
 -- The coded length of the AD: up to 127, one byte with that value; from 128 to 255, byte 0x81 and the length in one byte; from 256 up, byte
 -- 0x82 and the length in two bytes, high byte first.
@@ -36,9 +38,9 @@ abbrev pub DistinguishedLengths : Type 0
 DistinguishedLengths = (n : ℕ) → n < 65536 → Distinguished n (codedLength n)
 
 -- What stands before the message: the coded length of the AD, and the AD.
-unfoldable pub header : (ad : List ℕ) → List Bool
-header ad = bits (codedLength (length ad)) ++ bits ad
+unfoldable pub header : Edition → (ad : List ℕ) → List Bool
+header e ad = bitsIn e (codedLength (length ad)) ++ bitsIn e ad
 
 -- The coded AD length, the AD, the message, a single 1 bit.
-unfoldable pub authenticated : (ad message : List ℕ) → List Bool
-authenticated ad message = header ad ++ bits message ++ (true ∷ [])
+unfoldable pub authenticated : Edition → (ad message : List ℕ) → List Bool
+authenticated e ad message = header e ad ++ bitsIn e message ++ (true ∷ [])

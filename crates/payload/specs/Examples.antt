@@ -1,14 +1,16 @@
--- Document 01's starred examples; 3 and 4 as document 02 (C-12) has them.
+-- Document 01's starred examples, of the first edition; 3 and 4 as document 02 (C-12) has them.
 use mathlib.Core.Path.{_≡_}
 use mathlib.Core.Bool.{Bool, true, false}
 use mathlib.Core.List.{List, [], _∷_, map, foldl}
 use Prim.Native.Nat.{ℕ}
 use lib.ListN.{getD, set, replicate}
 use Rattle.bits.specs.Bit.{digit}
+use Rattle.bits.specs.Bytes.{bits}
 use Rattle.bits.specs.Strings.{zeros}
 use Rattle.preoutput.specs.Algebra.{single}
 use Rattle.preoutput.specs.Generator.{preoutput, fedBack}
 use Rattle.authenticator.specs.Authenticator.{absorb}
+use Rattle.machine.specs.declared.edition.Edition.the-variants.{First}
 use Rattle.startup.specs.StartUp.{loaded}
 use Rattle.payload.specs.AuthenticatedString.{codedLength, authenticated}
 
@@ -27,9 +29,9 @@ only n places = foldl (λ r k. set r k true) (zeros n) places
 -- The first pre-output of start-up, then the new LFSR bit and the new NFSR bit.
 abbrev pub firstClock : (key nonce : List ℕ) → List Bool
 firstClock key nonce =
-    preoutput single (loaded key nonce)
-    ∷ getD (fedBack single (loaded key nonce) .lfsr) 127 false
-    ∷ getD (fedBack single (loaded key nonce) .nfsr) 127 false
+    preoutput single (loaded (bits key) (bits nonce))
+    ∷ getD (fedBack single (loaded (bits key) (bits nonce)) .lfsr) 127 false
+    ∷ getD (fedBack single (loaded (bits key) (bits nonce)) .nfsr) 127 false
     ∷ []
 
 -- The pre-output of a generator with these places at 1.
@@ -44,10 +46,10 @@ examples =
     ∷ record { number = 4; computed = codedLength 255; expected = 0x81 ∷ 0xFF ∷ [] }
     ∷ record { number = 5; computed = codedLength 256; expected = 0x82 ∷ 0x01 ∷ 0x00 ∷ [] }
     ∷ record { number = 6; computed = codedLength 4096; expected = 0x82 ∷ 0x10 ∷ 0x00 ∷ [] }
-    ∷ record { number = 7; computed = digits (authenticated [] []); expected = 0 ∷ 0 ∷ 0 ∷ 0 ∷ 0 ∷ 0 ∷ 0 ∷ 0 ∷ 1 ∷ [] }
+    ∷ record { number = 7; computed = digits (authenticated First [] []); expected = 0 ∷ 0 ∷ 0 ∷ 0 ∷ 0 ∷ 0 ∷ 0 ∷ 0 ∷ 1 ∷ [] }
     ∷ record {
       number = 8;
-      computed = digits (authenticated (0xA5 ∷ []) (0x3C ∷ []));
+      computed = digits (authenticated First (0xA5 ∷ []) (0x3C ∷ []));
       expected = 0 ∷ 0 ∷ 0 ∷ 0 ∷ 0 ∷ 0 ∷ 0 ∷ 1 ∷ 1 ∷ 0 ∷ 1 ∷ 0 ∷ 0 ∷ 1 ∷ 0 ∷ 1 ∷ 0 ∷ 0 ∷ 1 ∷ 1 ∷ 1 ∷ 1 ∷ 0 ∷ 0 ∷ 1 ∷ [];
     }
     ∷ record { number = 9; computed = digits (firstClock (replicate 16 0x00) (replicate 12 0x00)); expected = 0 ∷ 1 ∷ 0 ∷ [] }

@@ -1,3 +1,4 @@
-// A sealed payload: the header that stands before its message, and its two parts.
+// A sealed payload: the header that stands before its message, its tag, and its two parts.
 pub mod header;
 pub mod parts;
+pub mod tag;

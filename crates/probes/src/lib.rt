@@ -1,8 +1,10 @@
 // What the benchmark times beside the calls: each engine by itself, and start-up. No part of the archive.
 ghost use mathlib.Core.Path.{_≡_};
 ghost use Rattle.bits.specs.Bytes.{word};
-ghost use Rattle.startup.specs.StartUp.{initialised};
+ghost use Rattle.machine.specs.declared.edition.Edition.the-variants.{First};
+ghost use Rattle.startup.specs.Editions.{initialised};
 ghost use Rattle.probes.specs.Probes.{lastOutputs};
+use machine::edition::Edition;
 use preoutput::Adding;
 use preoutput::Registers;
 use preoutput::Run;
@@ -54,12 +56,12 @@ pub extern "C" fn probe_strokes(lfsr0: u64, lfsr1: u64, nfsr0: u64, nfsr1: u64, 
     r.outputs
 }
 
-// The accumulator after start-up.
+// The accumulator after start-up of the first edition.
 #[no_mangle]
 pub extern "C" fn probe_start_up(key: &[u8; 16], nonce: &[u8; 12]) -> u64
-    ensures { λ r. ⌜ word 64 r ≡ initialised (now (key .entry)) (now (nonce .entry)) .authenticator .accumulator ⌝ }
+    ensures { λ r. ⌜ word 64 r ≡ initialised First (now (key .entry)) (now (nonce .entry)) .authenticator .accumulator ⌝ }
 {
-    let e = startup::start(key, nonce);
+    let e = startup::start(Edition::First, key, nonce);
     let t = e.tagger;
     t.accumulator
 }

@@ -1,4 +1,7 @@
 pub mod BlankKey
+pub mod Order
+pub mod Ordered
+pub mod Naming
 pub mod Loaded
 pub mod Sizes
 pub mod Clocks

@@ -1,5 +1,7 @@
 pub mod Sizes
 pub mod BlankKey
 pub mod StartUp
+pub mod Editions
+pub mod Naming
 pub mod Laws
 pub mod Filling

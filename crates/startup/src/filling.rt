@@ -1,13 +1,13 @@
-// Clocks with key bits, whose pre-outputs fill a word.
+// Clocks that add bits to the LFSR, whose pre-outputs fill a word.
 ghost use Rattle.bits.specs.Bytes.{word};
 ghost use Rattle.startup.specs.Filling.{Fills};
 use preoutput::Adding;
 use preoutput::Registers;
 use preoutput::Run;
 
-// A clock for each bit of a word of the key, which is added to the new LFSR bit.
-pub fn fill(g: Registers, key: u64) -> Run
-    ensures { λ r. ⌜ Fills g (word 64 key) r ⌝ }
+// A clock for each bit of a word, which is added to the new LFSR bit.
+pub fn fill(g: Registers, added: u64) -> Run
+    ensures { λ r. ⌜ Fills g (word 64 added) r ⌝ }
 {
     let empty = Run {
         registers: g,
@@ -15,7 +15,7 @@ pub fn fill(g: Registers, key: u64) -> Run
     };
     let to_lfsr = Adding {
         fed: false,
-        lfsr0: key,
+        lfsr0: added,
         lfsr1: 0,
         nfsr0: 0,
         nfsr1: 0,

@@ -1,1 +1,3 @@
+pub mod OverBytes
+pub mod ByteStrings
 pub mod Writing

@@ -4,6 +4,7 @@ use crate::published::KEY;
 use crate::published::NONCE;
 use crate::tally;
 use crate::tally::Tally;
+use machine::edition::Edition;
 use machine::engine::Engine;
 use preoutput::Adding;
 use preoutput::Run;
@@ -37,6 +38,7 @@ const PLAIN: Adding = Adding {
 
 // The machine after a zero of the string, clock by clock: the lowest of the two pre-outputs is that of the second clock.
 fn next(e: Engine) -> Engine {
+    let edition = e.edition;
     let registers = e.registers;
     let r = plain::run(
         Run {
@@ -48,6 +50,7 @@ fn next(e: Engine) -> Engine {
     );
     let clocked = r.registers;
     Engine {
+        edition,
         registers: clocked,
         tagger: authenticator::absorb(e.tagger, 0, r.outputs),
     }
@@ -55,7 +58,7 @@ fn next(e: Engine) -> Engine {
 
 // The registers at the positions where two strings differ, added up; where asked, each is shown.
 fn registers(s: &[u8], t: &[u8], show: bool) -> u64 {
-    let mut now = startup::start(&KEY, &NONCE);
+    let mut now = startup::start(Edition::First, &KEY, &NONCE);
     let mut sum: u64 = 0;
     let mut i: usize = 0;
     while i < LONGEST {

@@ -5,7 +5,8 @@ use mir.Syntax.{w64}
 use mir.ValLaws.{toZ-ofZ}
 use borrow.Author.Needs.{needs}
 use Rattle.refusals.proofs.Returned.{returned}
-use Rattle.grain128aead.specs.Calls.{sealed}
+use Rattle.machine.specs.declared.edition.Edition.the-variants.{First}
+use Rattle.grain128aead.specs.FirstEdition.{sealed}
 use Rattle.capi.proofs.Fits.{seal-fits}
 use Rattle.capi.proofs.tikhoplav_seal.Statement.{statement}
 use Rattle.capi.proofs.tikhoplav_seal.Tie as tie
@@ -24,7 +25,7 @@ returns c =
     let s = c .before .before .before in
     let a = s .before .before .before .before .before .before .before .args in
     returned _ _ (sealed (a .key .now) (a .nonce .now) (a .ad .now) (a .message .now) (a .out .now)) _ (toZ-ofZ w64 (c .signed .result) (record { sfits = c .signed .ok }) ∙ c .signed .ensures)
-    (seal-fits (a .key .now) (a .nonce .now) (a .ad .now) (a .message .now) (a .out .now) _ (s .seal .ensures .1 .1)) (s .seal .ensures .0)
+    (seal-fits First (a .key .now) (a .nonce .now) (a .ad .now) (a .message .now) (a .out .now) _ (s .seal .ensures .1 .1)) (s .seal .ensures .0)
 
 pub tikhoplav-seal-spec : {M : Type 1} → statement M
 tikhoplav-seal-spec = tie.close (tie.spec seal-requires signed-requires same-length returns)

@@ -5,7 +5,7 @@ use borrow.Rule.Slice.PartAt.{part-to-end}
 use borrow.Author.Needs.{needs}
 use lib.ListN.{length}
 use Rattle.bits.proofs.Written.{rest-written}
-use Rattle.machine.proofs.OverBytes.{words-and-bytes}
+use Rattle.strings.proofs.OverBytes.{words-and-bytes}
 use Rattle.strings.proofs.Writing.{adds-pieces}
 use Rattle.strings.proofs.add_fitting.Statement.{statement}
 use Rattle.strings.proofs.add_fitting.Tie as tie
@@ -44,8 +44,8 @@ returns : tie.Need-returns
 returns c =
     let w = c .before .before .before .before .before .before .before in
     let s = w .before .before .before .before .args .s .now in
-    let mid = w .add-words .last .1 .1 .0 in
-    adds-pieces (words-and-bytes s) (w .add-words .ensures) (rw (part-to-end s _, part-to-end mid _) at (c .before .before .add-bytes .ensures)) (rest-written mid (length s / 4 * 4) _) .written
+    let mid = w .add-words .last .1 .1 .1 .0 in
+    adds-pieces (w .before .before .before .before .args .edition) (words-and-bytes s) (w .add-words .ensures) (rw (part-to-end s _, part-to-end mid _) at (c .before .before .add-bytes .ensures)) (rest-written mid (length s / 4 * 4) _) .written
 
 pub add-fitting-spec : {M : Type 1} → statement M
 add-fitting-spec =

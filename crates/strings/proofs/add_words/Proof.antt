@@ -4,36 +4,27 @@ use mathlib.Core.Path.{_≡_, refl}
 use Prim.Native.Nat.{_-_, _*_, _/_, _≤_}
 use native.Mathlib.Omega.{arith}
 use borrow.Author.Needs.{needs}
-use lib.Bits.{bitXor}
+use lib.Dec.{lit≤}
 use lib.ListN.{length, take, drop}
-use Rattle.bits.specs.Bytes.{bits, bytes}
-use Rattle.bits.specs.Strings.{_⊞_}
-use Rattle.bits.specs.Times.{times}
-use Rattle.bits.proofs.Written.{word-written}
-use Rattle.preoutput.specs.Generator.{everySecond}
 use Rattle.preoutput.specs.Words.{generatorOf}
 use Rattle.strings.specs.Strings.{Adds}
 use Rattle.machine.proofs.Bitwise.{bits-keystream}
-use Rattle.machine.proofs.OverBytes.{more-word}
-use Rattle.strings.proofs.Writing.{adds-pieces, adds-piece}
+use Rattle.strings.proofs.OverBytes.{more-word}
+use Rattle.strings.proofs.Writing.{adds-pieces, adds-piece, adds-none}
 use Rattle.strings.proofs.add_words.Statement.{statement}
 use Rattle.strings.proofs.add_words.Tie as tie
 
 abbrev Inv-loop : tie.InvT-loop
-Inv-loop s out₀ n now₀ i₀ out now i = (i ≤ n) × (length out ≡ length out₀) × Adds (generatorOf now₀) (take (i * 4) s) out₀ out now
+Inv-loop edition s out₀ n now₀ i₀ out now i = (i ≤ n) × (length out ≡ length out₀) × Adds edition (generatorOf now₀) (take (i * 4) s) out₀ out now
 
 abbrev μ-loop : tie.MeasureT-loop
-μ-loop s out₀ n now₀ i₀ out now i = n - i
+μ-loop edition s out₀ n now₀ i₀ out now i = n - i
 
 loop-holds : tie.Need-loop-holds Inv-loop μ-loop
-unfolding bits bytes times everySecond _⊞_
-loop-holds c = (omega arith, refl, record { written = refl; generator = refl })
+loop-holds c = (omega arith, refl, adds-none _ _ _)
 
 mul-at : tie.Need-mul-at Inv-loop μ-loop
 mul-at c = omega arith
-
-add-end : tie.Need-add-end Inv-loop μ-loop
-add-end c = omega arith
 
 keystream-word-requires : tie.Need-keystream-word-requires Inv-loop μ-loop
 keystream-word-requires c κs = search needs
@@ -41,17 +32,8 @@ keystream-word-requires c κs = search needs
 word-at-requires : tie.Need-word-at-requires Inv-loop μ-loop
 word-at-requires c κs = omega arith
 
-sub-spell : tie.Need-sub-spell Inv-loop μ-loop
-sub-spell c = omega arith
-
-part-spell-start : tie.Need-part-spell-start Inv-loop μ-loop
-part-spell-start c = omega arith
-
-part-spell-end : tie.Need-part-spell-end Inv-loop μ-loop
-part-spell-end c = omega (arith, c .before .before .before .before .before .before .before .pre)
-
-spell-requires : tie.Need-spell-requires Inv-loop μ-loop
-spell-requires c κs = search needs
+put-requires : tie.Need-put-requires Inv-loop μ-loop
+put-requires c κs = (lit≤ tt, λ w. omega (arith, c .before .before .before .before .before .before .before .before .pre))
 
 add-i : tie.Need-add-i Inv-loop μ-loop
 add-i c = omega arith
@@ -61,17 +43,18 @@ loop-less c = omega arith
 
 loop-again : tie.Need-loop-again Inv-loop μ-loop
 loop-again c =
-    let l = c .before .before .before .before .before .before .before .before .before .loop in
-    let a = c .before .before .before .before .before .before .before .before .before .before .before .before in
-    let w = c .before .before .before .before .before .before in
-    let k = w .before .keystream-word in
-    let s = a .args .s .now in
+    let p = c .before .before .before in
+    let w = p .before .before in
+    let b = w .before .before in
+    let k = b .keystream-word in
+    let l = b .before .before .loop in
+    let a = b .before .before .before .before .before .args in
+    let s = a .s .now in
     let at = l .i * 4 in
-    let piece = adds-piece s at 4 (w .word-at .result) (omega arith) (w .word-at .ensures) (drop at (l .out)) (k .result .keystream) (bits-keystream 32 (omega arith) (k .ensures)) (k .ensures .generator) in
-    let written = word-written (l .out) at 4 (bitXor (w .word-at .result) (k .result .keystream)) (omega (arith, a .pre)) (c .before .before .before .spell .ensures) in (
+    let piece = adds-piece (a .edition) s at 4 (w .word-at .result) (omega arith) (w .word-at .ensures) (drop at (l .out)) (k .result .keystream) (bits-keystream 32 (omega arith) (k .ensures)) (k .ensures .generator) in (
       omega arith,
-      omega (arith, c .before .before .out .given .1),
-      adds-pieces (more-word s (l .i) (omega arith)) (l .inv .2) piece written,
+      omega (arith, p .put .kept),
+      adds-pieces (a .edition) (more-word s (l .i) (omega arith)) (l .inv .2) piece (p .put .ensures),
     )
 
 same-length : tie.Need-same-length Inv-loop μ-loop
@@ -91,13 +74,9 @@ add-words-spec =
     μ-loop
     loop-holds
     mul-at
-    add-end
     keystream-word-requires
     word-at-requires
-    sub-spell
-    part-spell-start
-    part-spell-end
-    spell-requires
+    put-requires
     add-i
     loop-less
     loop-again

@@ -1,13 +1,7 @@
 -- `payload::header::begin` meets its contract.
 -- Assumes nothing.
-use mathlib.Core.Path.{sym, ap, _∙_}
 use borrow.Author.Needs.{needs}
-use lib.ListN.{length}
-use Rattle.bits.specs.Bytes.{bits}
-use Rattle.machine.specs.Machine.{State, run}
-use Rattle.machine.proofs.Machine.{run-append}
-use Rattle.payload.specs.AuthenticatedString.{codedLength, header}
-use Rattle.payload.specs.Payload.{begun}
+use Rattle.payload.proofs.Begun.{begins}
 use Rattle.payload.proofs.header.begin.Statement.{statement}
 use Rattle.payload.proofs.header.begin.Tie as tie
 
@@ -21,13 +15,11 @@ absorb-all-requires : tie.Need-absorb-all-requires
 absorb-all-requires c κs = search needs
 
 returns : tie.Need-returns
-unfolding begun header
 returns c =
     let l = c .before in
-    let ad = l .before .before .before .args .ad .now in
-    c .absorb-all .ensures
-    ∙ ap (λ (st : State). run st (bits ad)) (l .absorb-length .ensures ∙ ap (λ (st : State). run st (bits (codedLength (length ad)))) (l .before .start .ensures))
-    ∙ sym (run-append _ (bits (codedLength (length ad))) (bits ad))
+    let s = l .before in
+    let a = s .before .before .args in
+    begins (a .edition) (a .key .now) (a .nonce .now) (a .ad .now) (s .start .result) (l .absorb-length .result) (c .absorb-all .result) (s .start .ensures) (l .absorb-length .ensures) (c .absorb-all .ensures)
 
 pub begin-spec : {M : Type 1} → statement M
 begin-spec =

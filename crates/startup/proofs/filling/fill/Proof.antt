@@ -13,7 +13,7 @@ returns : tie.Need-returns
 unfolding toLfsr toNfsr
 returns c =
     let a = c .before .args in
-    fills (a .g) (a .key) (c .run .result) (c .run .ensures)
+    fills (a .g) (a .added) (c .run .result) (c .run .ensures)
 
 pub fill-spec : {M : Type 1} → statement M
 fill-spec = tie.close (tie.spec run-requires returns)

@@ -28,7 +28,7 @@ returns c =
     let s = n .before .before in
     let key : length (s .args .key .now) ≡ keySize = search needs in
     let nonce : length (s .args .nonce .now) ≡ nonceSize = search needs in
-    loaded-words (s .args .key .now) (s .args .nonce .now) _ key nonce
+    loaded-words (s .args .edition) (s .args .key .now) (s .args .nonce .now) _ key nonce
     record {
       lfsr0 = n .word-at .ensures;
       lfsr1 = l .last-word .ensures;

@@ -4,7 +4,7 @@ use native.Mathlib.Nat.{add-sub-cancel-left}
 use native.Mathlib.Omega.{arith}
 use borrow.Author.Needs.{needs}
 use lib.ListN.{take, drop, length-take, length-drop}
-use Rattle.bits.proofs.Spelling.{spelled-eight}
+use Rattle.startup.proofs.Ordered.{word-eight}
 use Rattle.startup.proofs.loading.word_at.Statement.{statement}
 use Rattle.startup.proofs.loading.word_at.Tie as tie
 
@@ -23,14 +23,18 @@ part-number-end c = search needs
 number-requires : tie.Need-number-requires
 number-requires c κs = search needs
 
+ordered-requires : tie.Need-ordered-requires
+ordered-requires c κs = search needs
+
 returns : tie.Need-returns
 returns c =
-    let a = c .before .before .before .args in
-    spelled-eight (take 8 (drop (a .at) (a .s .now))) (c .number .result)
-    (omega (arith, length-take 8 (drop (a .at) (a .s .now)), length-drop (a .at) (a .s .now), c .before .before .before .pre))
-    (rw (add-sub-cancel-left (a .at) 8) at (c .number .ensures))
+    let n = c .before in
+    let a = n .before .before .before .args in
+    word-eight (a .edition) (take 8 (drop (a .at) (a .s .now))) (n .number .result) (c .ordered .result)
+    (omega (arith, length-take 8 (drop (a .at) (a .s .now)), length-drop (a .at) (a .s .now), n .before .before .before .pre))
+    (rw (add-sub-cancel-left (a .at) 8) at (n .number .ensures)) (c .ordered .ensures)
 
 pub word-at-spec : {M : Type 1} → statement M
 word-at-spec =
     tie.close
-    (tie.spec add-end sub-number part-number-start part-number-end number-requires returns)
+    (tie.spec add-end sub-number part-number-start part-number-end number-requires ordered-requires returns)

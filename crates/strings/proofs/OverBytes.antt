@@ -2,23 +2,25 @@
 -- Assumes nothing.
 use mathlib.Core.Path.{_≡_, refl, sym, ap, _∙_}
 use mathlib.Core.Bool.{Bool, true, false, cond}
-use mathlib.Core.List.{List, [], _∷_, _++_, append-nil}
+use mathlib.Core.List.{List, [], _∷_, _++_}
 use Prim.Native.Nat.{ℕ, _+_, _*_, _/_, _<_, _≤_}
 use native.Mathlib.Nat.{add-mul}
 use native.Mathlib.Omega.{arith}
 use lib.ListN.{length, getD, take, drop, take-append-drop}
 use lib.Seq.{drop-cons, take-add, length-take-le}
 use Rattle.bits.specs.Bit.{_⊻_}
-use Rattle.bits.specs.Bytes.{word, bits, bytes}
+use Rattle.bits.specs.Bytes.{word}
 use Rattle.bits.specs.Times.{times}
-use Rattle.bits.proofs.Packing.{bits-append}
 use Rattle.preoutput.specs.Algebra.{single}
 use Rattle.preoutput.specs.Generator.{plain}
+use Rattle.machine.specs.declared.edition.Edition.{Edition}
 use Rattle.machine.specs.declared.engine.Engine.{Engine}
 use Rattle.machine.specs.Engine.{stateOf, Crypts}
 use Rattle.machine.specs.Machine.{State, keystreamBit, step, run, crypt}
 use Rattle.machine.proofs.Machine.{run-append, length-crypt}
 use Rattle.machine.proofs.Clocks.{run-clocked}
+use Rattle.startup.specs.Editions.{bitsIn, bytesIn}
+use Rattle.startup.proofs.Order.{bitsIn-append}
 
 -- The machine after the message whose bits are given or come out.
 unfoldable pub through : (sealing : Bool) → State → List Bool → State
@@ -62,33 +64,28 @@ more-word s i h = rw (add-mul i 1 4) (more s (i * 4) 4 h)
 pub words-and-bytes : (s : List ℕ) → Pieces (take (length s / 4 * 4) s) (drop (length s / 4 * 4) s) s (length s / 4 * 4)
 words-and-bytes s = record { joined = take-append-drop (length s / 4 * 4) s; place = length-take-le (length s / 4 * 4) s (omega arith) }
 
--- The bits of a byte, as those of a piece.
-pub byte-piece : (s : List ℕ) (i : ℕ) → i < length s → word 8 (getD s i 0) ≡ bits (take 1 (drop i s))
-unfolding bits
-byte-piece s i h = sym (append-nil (word 8 (getD s i 0))) ∙ sym (ap (λ (l : List ℕ). bits (take 1 l)) (drop-cons s i 0 h))
+-- A byte of a string, as a piece.
+pub byte-piece : (s : List ℕ) (i : ℕ) → i < length s → getD s i 0 ∷ [] ≡ take 1 (drop i s)
+byte-piece s i h = sym (ap (take 1) (drop-cons s i 0 h))
 
 -- What goes over strings of bits one after the other goes over the pieces of a byte string.
-module _ (over : State → List Bool → State) (appends : (st : State) (s t : List Bool) → over st (s ++ t) ≡ over (over st s) t) where
-  pub over-pieces : {s t whole : List ℕ} {i : ℕ} (st : State) {a b : State} → Pieces s t whole i → a ≡ over st (bits s) → b ≡ over a (bits t) → b ≡ over st (bits whole)
+module _ (e : Edition) (over : State → List Bool → State) (appends : (st : State) (s t : List Bool) → over st (s ++ t) ≡ over (over st s) t) where
+  pub over-pieces : {s t whole : List ℕ} {i : ℕ} (st : State) {a b : State} → Pieces s t whole i → a ≡ over st (bitsIn e s) → b ≡ over a (bitsIn e t) → b ≡ over st (bitsIn e whole)
   over-pieces {s} {t} st pieces first second =
-      second ∙ ap (λ (x : State). over x (bits t)) first
-      ∙ sym (ap (over st) (bits-append s t) ∙ appends st (bits s) (bits t)) ∙ ap (λ (l : List ℕ). over st (bits l)) (pieces .joined)
+      second ∙ ap (λ (x : State). over x (bitsIn e t)) first
+      ∙ sym (ap (over st) (bitsIn-append e s t) ∙ appends st (bitsIn e s) (bitsIn e t)) ∙ ap (λ (l : List ℕ). over st (bitsIn e l)) (pieces .joined)
 
--- A byte, before a string and alone, and three bytes.
-pub run-cons : (st : State) (x : ℕ) (s : List ℕ) {a b : State} → a ≡ run st (word 8 x) → b ≡ run a (bits s) → b ≡ run st (bits (x ∷ s))
-unfolding bits
-run-cons st x s ea eb = eb ∙ ap (λ (a : State). run a (bits s)) ea ∙ sym (run-append st (word 8 x) (bits s))
+-- Two bytes and three.
+module _ (e : Edition) (st : State) (x y : ℕ) {a b : State} (first : a ≡ run st (bitsIn e (x ∷ []))) (second : b ≡ run a (bitsIn e (y ∷ []))) where
+  pub run-two : b ≡ run st (bitsIn e (x ∷ y ∷ []))
+  run-two = over-pieces e run run-append st (record { joined = refl; place = refl }) first second
 
-pub run-one : (st : State) (x : ℕ) → run st (word 8 x) ≡ run st (bits (x ∷ []))
-unfolding bits
-run-one st x = ap (run st) (sym (append-nil (word 8 x)))
-
-pub run-three : (st : State) (x y z : ℕ) {a b c : State} → a ≡ run st (word 8 x) → b ≡ run a (word 8 y) → c ≡ run b (word 8 z) → c ≡ run st (bits (x ∷ y ∷ z ∷ []))
-run-three st x y z {a} {b} ea eb ec = run-cons st x (y ∷ z ∷ []) ea (run-cons a y (z ∷ []) eb (ec ∙ run-one b z))
+  pub run-three : (z : ℕ) {c : State} → c ≡ run b (bitsIn e (z ∷ [])) → c ≡ run st (bitsIn e (x ∷ y ∷ z ∷ []))
+  run-three z third = over-pieces e run run-append st (record { joined = refl; place = refl }) run-two third
 
 -- The bytes that come out.
-unfoldable pub cryptBytes : (sealing : Bool) → State → List ℕ → List ℕ
-cryptBytes sealing st s = bytes (length s) (crypt sealing st (bits s))
+unfoldable pub cryptBytes : Edition → (sealing : Bool) → State → List ℕ → List ℕ
+cryptBytes e sealing st s = bytesIn e (length s) (crypt sealing st (bitsIn e s))
 
 -- The machine after bits that are the lowest of a number.
 pub crypts-through : {n : ℕ} {sealing : Bool} {st : State} {x y : ℕ} {r : Engine} {s : List Bool} → Crypts n sealing st x y r → word n x ≡ s → stateOf r ≡ through sealing st s

@@ -1,10 +1,10 @@
--- `startup::feed_back` meets its contract.
+-- `startup::feeding::feed_back` meets its contract.
 -- Assumes nothing.
 use borrow.Author.Needs.{needs}
 use Rattle.preoutput.specs.Running.{toLfsr, toNfsr}
 use Rattle.startup.proofs.Filled.{fed-back}
-use Rattle.startup.proofs.feed_back.Statement.{statement}
-use Rattle.startup.proofs.feed_back.Tie as tie
+use Rattle.startup.proofs.feeding.feed_back.Statement.{statement}
+use Rattle.startup.proofs.feeding.feed_back.Tie as tie
 
 run-requires : tie.Need-run-requires
 run-requires c κs = search needs

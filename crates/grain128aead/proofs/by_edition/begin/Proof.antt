@@ -1,4 +1,4 @@
--- `grain128aead::begin` meets its contract.
+-- `grain128aead::by_edition::begin` meets its contract.
 -- Assumes nothing.
 use mathlib.Core.Path.{_≡_, sym, ap₂, _∙_}
 use mathlib.Core.List.{List, _++_, append-nil}
@@ -8,8 +8,8 @@ use borrow.Author.Needs.{needs}
 use lib.ListN.{length, take, drop, drop-of-length-le}
 use lib.Seq.{take-length}
 use Rattle.payload.specs.Payload.{begun}
-use Rattle.grain128aead.proofs.begin.Statement.{statement}
-use Rattle.grain128aead.proofs.begin.Tie as tie
+use Rattle.grain128aead.proofs.by_edition.begin.Statement.{statement}
+use Rattle.grain128aead.proofs.by_edition.begin.Tie as tie
 
 -- A copy of a string over one of its length is the string.
 copied : (s lent : List ℕ) {d : List ℕ} → length lent ≡ length s → d ≡ take (length s) s ++ drop (length s) lent → d ≡ s
@@ -37,7 +37,7 @@ returns c =
     let s = k .before .before .before .before .before in
     let a = s .args in
     c .begin .ensures
-    ∙ ap₂ (λ (x y : List ℕ). begun x y (a .ad .now)) (copied (a .key .now) _ (sym (s .pre .0)) (k .copy .ensures .1)) (copied (a .nonce .now) _ (sym (s .pre .1)) (n .copy2 .ensures .1))
+    ∙ ap₂ (λ (x y : List ℕ). begun (a .edition) x y (a .ad .now)) (copied (a .key .now) _ (sym (s .pre .0)) (k .copy .ensures .1)) (copied (a .nonce .now) _ (sym (s .pre .1)) (n .copy2 .ensures .1))
 
 pub begin-spec : {M : Type 1} → statement M
 begin-spec =

@@ -1,0 +1,5 @@
+// The editions of Grain-128AEAD.
+pub enum Edition {
+    First,
+    Second,
+}
