@@ -1,11 +1,37 @@
 /*
- * Tikhoplav: Grain-128AEAD, first edition. Sealing and opening of whole byte strings; the two parts of a sealed one.
+ * Tikhoplav: Grain-128AEAD, both editions. Sealing and opening of whole byte strings; the two parts of a sealed one.
  *
  * Sealing enciphers a message under a key and a nonce, and appends a tag over the message and its associated data
  * (AD). Opening recomputes the tag, and hands out the message only if the tag is right. The AD is authenticated and
  * not enciphered; it is no part of the sealed payload, and the opener must have it from elsewhere.
  *
  *     sealed payload = ciphertext (as long as the message), then the tag (8 bytes)
+ *
+ * The two editions
+ *
+ *   Edition 1 is Grain-128AEAD, edition 2 is Grain-128AEADv2. tikhoplav_seal_edition and tikhoplav_open_edition name
+ *   the edition; tikhoplav_seal and tikhoplav_open mean edition 1. The two don't open one another: what one sealed the
+ *   other refuses, with TIKHOPLAV_REFUSED_TAG_DIFFERS (each payload opens under the other with probability 2^-64, by
+ *   chance). Nothing in a payload tells its edition: both sides have to agree on it beforehand.
+ *
+ *   Which one a partner's box is likely to speak: edition 2, if it says Grain-128AEADv2, or was written after about
+ *   2021; that is what the designers sent to the last round of NIST's lightweight cryptography project, and what their
+ *   reference code is for. Edition 1, if it says Grain-128AEAD without v2, or its firmware is older. Everything that a
+ *   version of this library before 3.2.0 sealed is edition 1.
+ *
+ *   They differ in two things, the order of bits and start-up. All else is one and the same: the registers and how they
+ *   are loaded, running, the tag, the coded length of the AD, sizes, limits and refusals.
+ *
+ *                                   edition 1                      edition 2
+ *     the bits of every byte        from the top bit down          from the lowest bit up
+ *     start-up: clocks that feed    256                            320, and 64 more that also add key bits 64 to 127
+ *       the pre-output back                                        to the LFSR and key bits 0 to 63 to the NFSR
+ *     start-up: clocks that fill    128, which add key bits 0      128, which add nothing
+ *       accumulator and register    to 127 to the LFSR
+ *     running starts at clock       384                            512
+ *
+ *   The order of bits is that of key, nonce, coded length of the AD, AD, message, ciphertext and tag. No published
+ *   vector of edition 2 was at hand to confirm its order: it rests on the designers' reference code.
  *
  * What the archive needs
  *
@@ -54,7 +80,10 @@
  *   Versions before 3.0.0 take the blank key. What they sealed under it this version refuses, with
  *   TIKHOPLAV_REFUSED_BLANK_KEY: open it with the version that sealed it, and seal it again under a random key.
  *
- *   Apart from these three, each version opens what another seals.
+ *   Versions before 3.2.0 have edition 1 alone. What this one seals under edition 2 they refuse, with
+ *   TIKHOPLAV_REFUSED_TAG_DIFFERS.
+ *
+ *   Apart from these four, each version opens what another seals.
  *
  * What is not promised
  *
@@ -89,7 +118,11 @@
 extern "C" {
 #endif
 
-#define TIKHOPLAV_VERSION "3.1.0"
+#define TIKHOPLAV_VERSION "3.2.0"
+
+/* The editions: Grain-128AEAD and Grain-128AEADv2. */
+#define TIKHOPLAV_EDITION_1 1
+#define TIKHOPLAV_EDITION_2 2
 
 /* Sizes in bytes. A key and a nonce have exactly these; a sealed payload ends with exactly such a tag. */
 #define TIKHOPLAV_KEY_SIZE 16
@@ -105,8 +138,12 @@ extern "C" {
 /*
  * Refusals of sealing and opening. The checks run in this order, which is not that of the numbers, and the first that
  * applies is the answer: a call with a short key and a long nonce answers -1, one with a blank key and too long an AD
- * answers -15, and an output that is too short answers -6 even where the tag is wrong too.
+ * answers -15, and an output that is too short answers -6 even where the tag is wrong too. An unknown edition answers
+ * -23 whatever else is wrong.
  */
+
+/* The calls that name an edition only: it is neither TIKHOPLAV_EDITION_1 nor TIKHOPLAV_EDITION_2. */
+#define TIKHOPLAV_REFUSED_UNKNOWN_EDITION (-23)
 
 /* key_len is not TIKHOPLAV_KEY_SIZE. */
 #define TIKHOPLAV_REFUSED_KEY_SIZE (-1)
@@ -132,8 +169,9 @@ extern "C" {
    TIKHOPLAV_TAG_SIZE. */
 #define TIKHOPLAV_REFUSED_OUTPUT_TOO_SHORT (-6)
 
-/* Opening only: the tag is not the one that key, nonce, AD and ciphertext give. Any of the four, or the tag, differs
-   from what was sealed, or a version before 2.0.0 sealed it with an AD of 128 to 255 bytes; which cannot be told. */
+/* Opening only: the tag is not the one that key, nonce, AD and ciphertext give under the edition. Any of the four, or
+   the tag, differs from what was sealed, or it was sealed under the other edition, or a version before 2.0.0 sealed it
+   with an AD of 128 to 255 bytes; which cannot be told. */
 #define TIKHOPLAV_REFUSED_TAG_DIFFERS (-7)
 
 /*
@@ -162,6 +200,36 @@ int64_t tikhoplav_seal(const uint8_t *key, size_t key_len, const uint8_t *nonce,
 int64_t tikhoplav_open(const uint8_t *key, size_t key_len, const uint8_t *nonce, size_t nonce_len,
                        const uint8_t *ad, size_t ad_len, const uint8_t *sealed, size_t sealed_len,
                        uint8_t *out, size_t out_len);
+
+/*
+ * Seals message[0 .. message_len - 1] under an edition, TIKHOPLAV_EDITION_1 or TIKHOPLAV_EDITION_2. With
+ * TIKHOPLAV_EDITION_1 it is tikhoplav_seal.
+ *
+ * Writes the ciphertext to out[0 .. message_len - 1], the tag to the TIKHOPLAV_TAG_SIZE bytes after it, and answers
+ * message_len + TIKHOPLAV_TAG_SIZE. Whenever the edition is one of the two, the sizes are legal, the key is not blank
+ * and out_len is at least that, it succeeds.
+ *
+ * Otherwise it answers the first of these that applies, and writes nothing:
+ * UNKNOWN_EDITION, KEY_SIZE, NONCE_SIZE, BLANK_KEY, AD_TOO_LONG, MESSAGE_TOO_LONG, OUTPUT_TOO_SHORT.
+ */
+int64_t tikhoplav_seal_edition(uint32_t edition, const uint8_t *key, size_t key_len,
+                               const uint8_t *nonce, size_t nonce_len, const uint8_t *ad, size_t ad_len,
+                               const uint8_t *message, size_t message_len, uint8_t *out, size_t out_len);
+
+/*
+ * Opens sealed[0 .. sealed_len - 1] under an edition, TIKHOPLAV_EDITION_1 or TIKHOPLAV_EDITION_2: a ciphertext, whose
+ * last TIKHOPLAV_TAG_SIZE bytes are its tag. With TIKHOPLAV_EDITION_1 it is tikhoplav_open.
+ *
+ * If the tag is right under that edition, writes the message to out[0 .. sealed_len - TIKHOPLAV_TAG_SIZE - 1] and
+ * answers sealed_len - TIKHOPLAV_TAG_SIZE, which is 0 for an empty message.
+ *
+ * Otherwise it answers the first of these that applies, and writes nothing:
+ * UNKNOWN_EDITION, KEY_SIZE, NONCE_SIZE, BLANK_KEY, AD_TOO_LONG, MESSAGE_TOO_LONG, SEALED_TOO_SHORT, OUTPUT_TOO_SHORT,
+ * TAG_DIFFERS.
+ */
+int64_t tikhoplav_open_edition(uint32_t edition, const uint8_t *key, size_t key_len,
+                               const uint8_t *nonce, size_t nonce_len, const uint8_t *ad, size_t ad_len,
+                               const uint8_t *sealed, size_t sealed_len, uint8_t *out, size_t out_len);
 
 /*
  * The two parts of sealed[0 .. sealed_len - 1], of any length, whole or cut short: answers the length n of the
