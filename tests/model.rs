@@ -1,5 +1,5 @@
-//! An independent implementation of documents 01 and 02: a byte for each register bit, and every
-//! bit moved at every clock.
+//! An independent implementation of documents 01 and 02, of both editions: a byte for each register
+//! bit, and every bit moved at every clock.
 
 #[path = "../cli/sizes.rs"]
 mod sizes;
@@ -46,18 +46,65 @@ fn move_down(places: &mut [u8], new: u8) {
     places[last] = new;
 }
 
-/// The bits of a byte string, the top bit of each byte first.
-pub fn bits(bytes: &[u8]) -> Vec<u8> {
-    let of_byte = |&byte: &u8| (0..8).map(move |place| (byte >> (7 - place)) & 1);
-    bytes.iter().flat_map(of_byte).collect()
+/// The editions differ in the order of a byte's bits and in start-up, and in nothing else.
+#[derive(Clone, Copy, Debug, PartialEq, Eq)]
+pub enum Edition {
+    First,
+    Second,
 }
 
-fn bytes(bits: &[u8]) -> Vec<u8> {
-    let byte = |eight: &[u8]| eight.iter().fold(0, |byte, bit| (byte << 1) | bit);
-    bits.chunks(8).map(byte).collect()
+impl Edition {
+    /// The edition of this number, or the number of the refusal.
+    pub fn numbered(number: u32) -> Result<Edition, u8> {
+        match number {
+            1 => Ok(Edition::First),
+            2 => Ok(Edition::Second),
+            _ => Err(23),
+        }
+    }
+
+    /// Where bit i of a string stands in its byte: from the top down, or from the lowest up.
+    pub fn mask(self, i: usize) -> u8 {
+        match self {
+            Edition::First => 0x80 >> (i % 8),
+            Edition::Second => 0x01 << (i % 8),
+        }
+    }
+
+    /// From the loaded registers to where running starts, at clock 384 or 512.
+    fn start_up(self, machine: &mut Machine, key: &[u8]) {
+        let key = self.bits(key);
+        match self {
+            Edition::First => {
+                machine.feed_back(&[0; 256], &[0; 256]);
+                machine.fill(&key);
+            }
+            Edition::Second => {
+                machine.feed_back(&[0; 320], &[0; 320]);
+                machine.feed_back(&key[64..], &key[..64]);
+                machine.fill(&[0; 128]);
+            }
+        }
+    }
+
+    /// The bits of a byte string.
+    pub fn bits(self, bytes: &[u8]) -> Vec<u8> {
+        let bit = |i| u8::from(bytes[i / 8] & self.mask(i) != 0);
+        (0..8 * bytes.len()).map(bit).collect()
+    }
+
+    /// The byte string of these bits.
+    pub fn bytes(self, bits: &[u8]) -> Vec<u8> {
+        let mut bytes = vec![0; bits.len() / 8];
+        for (i, bit) in bits.iter().enumerate() {
+            bytes[i / 8] |= self.mask(i) * bit;
+        }
+        bytes
+    }
 }
 
 pub struct Machine {
+    edition: Edition,
     lfsr: Places,
     nfsr: Places,
     accumulator: [u8; 64],
@@ -66,35 +113,45 @@ pub struct Machine {
 
 impl Machine {
     /// The loaded registers: 16 bytes of key, whatever they are, and 12 of nonce.
-    pub fn loaded(key: &[u8], nonce: &[u8]) -> Machine {
+    pub fn loaded(edition: Edition, key: &[u8], nonce: &[u8]) -> Machine {
         let mut machine = Machine {
+            edition,
             lfsr: [1; 128],
             nfsr: [0; 128],
             accumulator: [0; 64],
             register: [0; 64],
         };
-        machine.nfsr.copy_from_slice(&bits(key));
-        machine.lfsr[..96].copy_from_slice(&bits(nonce));
+        machine.nfsr.copy_from_slice(&edition.bits(key));
+        machine.lfsr[..96].copy_from_slice(&edition.bits(nonce));
         machine.lfsr[127] = 0;
         machine
     }
 
-    /// The machine after start-up, in 384 clocks.
-    pub fn start(key: &[u8], nonce: &[u8]) -> Machine {
-        let mut machine = Machine::loaded(key, nonce);
-        for _ in 0..256 {
-            let y = machine.preoutput();
-            machine.clock(y, y);
-        }
-        for (j, &key_bit) in bits(key).iter().enumerate() {
-            let y = machine.preoutput();
-            match j {
-                0..64 => machine.accumulator[j] = y,
-                _ => machine.register[j - 64] = y,
-            }
-            machine.clock(key_bit, 0);
-        }
+    /// The machine after start-up.
+    pub fn start(edition: Edition, key: &[u8], nonce: &[u8]) -> Machine {
+        let mut machine = Machine::loaded(edition, key, nonce);
+        edition.start_up(&mut machine, key);
         machine
+    }
+
+    /// Clocks that feed the pre-output back to both registers, and add these bits too.
+    fn feed_back(&mut self, to_lfsr: &[u8], to_nfsr: &[u8]) {
+        for (s, b) in to_lfsr.iter().zip(to_nfsr) {
+            let y = self.preoutput();
+            self.clock(y ^ s, y ^ b);
+        }
+    }
+
+    /// 128 clocks that add these bits to the LFSR; their pre-outputs fill accumulator and register.
+    fn fill(&mut self, to_lfsr: &[u8]) {
+        for (j, &s) in to_lfsr.iter().enumerate() {
+            let y = self.preoutput();
+            match j {
+                0..64 => self.accumulator[j] = y,
+                _ => self.register[j - 64] = y,
+            }
+            self.clock(s, 0);
+        }
     }
 
     /// Plain clocks; the last 64 of their pre-outputs, the latest lowest.
@@ -143,7 +200,7 @@ impl Machine {
     }
 
     pub fn absorb_bytes(&mut self, string: &[u8]) {
-        for bit in bits(string) {
+        for bit in self.edition.bits(string) {
             self.absorb(bit);
         }
     }
@@ -172,8 +229,8 @@ pub fn coded_length(ad_len: usize) -> Vec<u8> {
 }
 
 /// The machine where the message begins.
-fn begin(key: &[u8], nonce: &[u8], coded_length: &[u8], ad: &[u8]) -> Machine {
-    let mut machine = Machine::start(key, nonce);
+fn begin(edition: Edition, key: &[u8], nonce: &[u8], coded_length: &[u8], ad: &[u8]) -> Machine {
+    let mut machine = Machine::start(edition, key, nonce);
     machine.absorb_bytes(coded_length);
     machine.absorb_bytes(ad);
     machine
@@ -182,7 +239,7 @@ fn begin(key: &[u8], nonce: &[u8], coded_length: &[u8], ad: &[u8]) -> Machine {
 /// The tag: the accumulator after the final 1.
 fn finish(mut machine: Machine) -> Vec<u8> {
     machine.absorb(1);
-    bytes(&machine.accumulator)
+    machine.edition.bytes(&machine.accumulator)
 }
 
 /// The number of the first row that applies.
@@ -195,12 +252,14 @@ fn refuse(rows: &[(u8, bool)]) -> Result<(), u8> {
 
 /// The sealed payload, or the number of the refusal, where the output has `room` bytes.
 pub fn seal(
+    edition: u32,
     key: &[u8],
     nonce: &[u8],
     ad: &[u8],
     message: &[u8],
     room: usize,
 ) -> Result<Vec<u8>, u8> {
+    let edition = Edition::numbered(edition)?;
     refuse(&[
         (1, key.len() != KEY_SIZE),
         (2, nonce.len() != NONCE_SIZE),
@@ -209,25 +268,27 @@ pub fn seal(
         (4, message.len() > MESSAGE_MAX),
         (6, room < message.len() + TAG_SIZE),
     ])?;
-    Ok(payload(key, nonce, &coded_length(ad.len()), ad, message))
+    let coded_length = coded_length(ad.len());
+    Ok(payload(edition, key, nonce, &coded_length, ad, message))
 }
 
 /// The payload in whose authenticated string the AD's length is coded so. No row is tried.
 pub fn payload(
+    edition: Edition,
     key: &[u8],
     nonce: &[u8],
     coded_length: &[u8],
     ad: &[u8],
     message: &[u8],
 ) -> Vec<u8> {
-    let mut machine = begin(key, nonce, coded_length, ad);
-    let mut ciphertext = bits(message);
+    let mut machine = begin(edition, key, nonce, coded_length, ad);
+    let mut ciphertext = edition.bits(message);
     for bit in &mut ciphertext {
         let message_bit = *bit;
         *bit ^= machine.preoutput();
         machine.absorb(message_bit);
     }
-    [bytes(&ciphertext), finish(machine)].concat()
+    [edition.bytes(&ciphertext), finish(machine)].concat()
 }
 
 /// The ciphertext part and the tag part of a sealed input.
@@ -240,12 +301,14 @@ pub fn parts(sealed: &[u8]) -> (&[u8], &[u8]) {
 
 /// The message, or the number of the refusal, where the output has `room` bytes.
 pub fn open(
+    edition: u32,
     key: &[u8],
     nonce: &[u8],
     ad: &[u8],
     sealed: &[u8],
     room: usize,
 ) -> Result<Vec<u8>, u8> {
+    let edition = Edition::numbered(edition)?;
     refuse(&[
         (1, key.len() != KEY_SIZE),
         (2, nonce.len() != NONCE_SIZE),
@@ -256,12 +319,12 @@ pub fn open(
         (6, room + TAG_SIZE < sealed.len()),
     ])?;
     let (ciphertext, tag) = parts(sealed);
-    let mut machine = begin(key, nonce, &coded_length(ad.len()), ad);
-    let mut message = bits(ciphertext);
+    let mut machine = begin(edition, key, nonce, &coded_length(ad.len()), ad);
+    let mut message = edition.bits(ciphertext);
     for bit in &mut message {
         *bit ^= machine.preoutput();
         machine.absorb(*bit);
     }
     refuse(&[(7, finish(machine) != tag)])?;
-    Ok(bytes(&message))
+    Ok(edition.bytes(&message))
 }
