@@ -28,6 +28,7 @@ pub fn run(call: Call, options: &Options) -> Result<(), Failure> {
 fn answer(call: Call, inputs: &Inputs) -> Result<Vec<u8>, Failure> {
     let mut out = vec![0; SEALED_MAX];
     let answer = call.run(
+        inputs.edition.number(),
         &inputs.key,
         &inputs.nonce,
         &inputs.ad,

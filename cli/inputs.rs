@@ -1,5 +1,6 @@
 //! What the commands are given, read from where the options say.
 
+use crate::edition::Edition;
 use crate::failure::Failure;
 use crate::options::Options;
 use crate::streams;
@@ -7,6 +8,7 @@ use tikhoplav::hex;
 
 /// What `seal` and `open` are given.
 pub struct Inputs {
+    pub edition: Edition,
     pub key: Vec<u8>,
     pub nonce: Vec<u8>,
     pub ad: Vec<u8>,
@@ -16,6 +18,7 @@ pub struct Inputs {
 impl Inputs {
     pub fn read(options: &Options) -> Result<Inputs, Failure> {
         Ok(Inputs {
+            edition: Edition::read(options)?,
             key: required(options, "--key", "--key-file")?,
             nonce: required(options, "--nonce", "--nonce-file")?,
             ad: either(options, "--ad", "--ad-file")?.unwrap_or_default(),

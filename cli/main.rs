@@ -1,8 +1,10 @@
 //! The lab's command-line tool over the archive.
 
 mod crypt;
+mod edition;
 mod failure;
 mod inputs;
+mod job;
 mod options;
 mod parts;
 mod refusal;

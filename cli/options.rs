@@ -13,6 +13,7 @@ pub struct Known {
 
 pub const SEAL_AND_OPEN: Known = Known {
     with_value: &[
+        "--edition",
         "--key",
         "--key-file",
         "--nonce",

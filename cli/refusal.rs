@@ -41,14 +41,25 @@ pub fn sentence(call: Call, inputs: &Inputs, number: u8) -> String {
             is(data, &inputs.data)
         ),
         6 => "the output is too short".to_string(),
-        7 if (128..=255).contains(&inputs.ad.len()) => format!("{WRONG_TAG}, or {SEALED_BEFORE}"),
-        7 => WRONG_TAG.to_string(),
+        7 => wrong_tag(inputs),
         15 => match call {
             Call::Seal => format!("{BLANK_KEY}: {MAKE_A_KEY}"),
             Call::Open => format!("{BLANK_KEY}: {TRUE_KEY}"),
         },
+        23 => format!("the edition is {}, and must be 1 or 2", inputs.edition),
         _ => unreachable!("the header names no refusal {number}"),
     }
+}
+
+/// The versions before 2.0.0 have edition 1 alone.
+fn wrong_tag(inputs: &Inputs) -> String {
+    let tried = inputs.edition.number();
+    let other = if tried == 1 { 2 } else { 1 };
+    let before = match (tried, inputs.ad.len()) {
+        (1, 128..=255) => format!(", or {SEALED_BEFORE}"),
+        _ => String::new(),
+    };
+    format!("{WRONG_TAG}{before}, or it was sealed under edition {other} (--edition {other})")
 }
 
 /// A count of bytes in words.

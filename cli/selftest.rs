@@ -1,12 +1,11 @@
 //! `tikhoplav selftest`: the archive against published vectors and stored answers.
 
 use crate::failure::Failure;
+use crate::job::Job;
 use crate::streams;
-use tikhoplav::archive::{self, Call};
 use tikhoplav::hex;
-use tikhoplav::sizes::{KEY_SIZE, NONCE_SIZE, TAG_SIZE};
-use tikhoplav::vectors::{counting, Published, Sealed, Summand, UnderBlankKey};
-use tikhoplav::vectors::{PUBLISHED, SEALED, UNDER_BLANK_KEY};
+use tikhoplav::sizes::KEY_SIZE;
+use tikhoplav::vectors::{Published, Sealed, Summand, PUBLISHED, SEALED, UNDER_BLANK_KEY};
 
 struct Check {
     what: String,
@@ -14,7 +13,7 @@ struct Check {
 }
 
 const PUBLISHED_HEADING: &str = "\
-published vector 2 of Grain-128AEAD (appendix A of the paper), through seal
+published vector 2 of Grain-128AEAD (appendix A of the paper), edition 1, through seal
   A call authenticates a coded AD length first, which the published string lacks. So the published
   tag is checked as the sum of the tags of three strings that sum to that string.
 ";
@@ -26,8 +25,21 @@ the blank key (00000000000000000000000000000000), through seal and open
 ";
 
 const SEALED_HEADING: &str = "\
-stored payloads of counting bytes (00 01 02 ..), through seal and open
+stored payloads of counting bytes (00 01 02 ..), both editions, through seal and open
+  They are not published. The independent implementation of the source tree (tests/model.rs) made
+  them.
 ";
+
+const UNNAMED_HEADING: &str = "\
+the calls that name no edition
+";
+
+const UNKNOWN_HEADING: &str = "\
+numbers that are no edition's, through seal and open
+";
+
+const EDITIONS: [u32; 2] = [1, 2];
+const UNKNOWN: [u32; 3] = [0, 3, u32::MAX];
 
 pub fn run() -> Result<(), Failure> {
     let sections = [
@@ -35,8 +47,16 @@ pub fn run() -> Result<(), Failure> {
             PUBLISHED_HEADING,
             PUBLISHED.iter().flat_map(published).collect(),
         ),
-        (BLANK_HEADING, Vec::from(blank())),
+        (
+            BLANK_HEADING,
+            EDITIONS.into_iter().flat_map(blank).collect(),
+        ),
         (SEALED_HEADING, SEALED.iter().flat_map(sealed).collect()),
+        (UNNAMED_HEADING, Vec::from(unnamed())),
+        (
+            UNKNOWN_HEADING,
+            UNKNOWN.into_iter().flat_map(unknown).collect(),
+        ),
     ];
     let checks = sections.iter().flat_map(|(_, checks)| checks);
     let total = checks.clone().count();
@@ -75,7 +95,7 @@ fn published(vector: &Published) -> Vec<Check> {
     };
     let key = hex::encode(&vector.key);
     // The first keystream byte lies under the coded length of the empty AD, the rest under zeros.
-    let payload = payload(&vector.key, &vector.nonce, &[], &[0; 15]);
+    let payload = under(vector, vec![], vec![0; 15]).seal(1);
     let keystream = vector.keystream.to_be_bytes();
     vec![
         check(
@@ -89,76 +109,107 @@ fn published(vector: &Published) -> Vec<Check> {
     ]
 }
 
+fn under(vector: &Published, ad: Vec<u8>, message: Vec<u8>) -> Job {
+    Job {
+        key: vector.key.to_vec(),
+        nonce: vector.nonce.to_vec(),
+        ad,
+        message,
+    }
+}
+
 fn sum_of_tags(vector: &Published, summands: &[Summand]) -> Option<u64> {
     let mut sum = 0;
     for summand in summands {
-        let payload = payload(
-            &vector.key,
-            &vector.nonce,
-            &summand.ad(),
-            &summand.message(),
-        )?;
+        let payload = under(vector, summand.ad(), summand.message()).seal(1)?;
         sum ^= u64::from_be_bytes(*payload.last_chunk()?);
     }
     Some(sum)
 }
 
 /// Both calls refuse the blank key, with room for what they would write.
-fn blank() -> [Check; 2] {
-    let UnderBlankKey {
-        nonce,
-        ad,
-        message,
-        payload,
-    } = UNDER_BLANK_KEY;
-    let refused = |call: Call, data: &[u8]| {
-        let mut out = [0xa5; 64];
-        call.run(&[0; KEY_SIZE], &nonce, ad, data, &mut out) == -15 && out == [0xa5; 64]
+fn blank(edition: u32) -> [Check; 2] {
+    let job = Job {
+        key: vec![0; KEY_SIZE],
+        nonce: UNDER_BLANK_KEY.nonce.to_vec(),
+        ad: UNDER_BLANK_KEY.ad.to_vec(),
+        message: UNDER_BLANK_KEY.message.to_vec(),
     };
     [
         check(
-            "seal refuses it with 15, and nothing is written".to_string(),
-            refused(Call::Seal, message),
+            format!("edition {edition}: seal refuses it with 15, and nothing is written"),
+            job.seal_refused(edition, 15),
         ),
         check(
-            "open refuses it with 15, and nothing is written".to_string(),
-            refused(Call::Open, payload),
+            format!("edition {edition}: open refuses it with 15, and nothing is written"),
+            job.open_refused(edition, UNDER_BLANK_KEY.payload, 15),
         ),
     ]
 }
 
-fn sealed(vector: &Sealed) -> [Check; 3] {
-    let (key, nonce) = (counting(KEY_SIZE), counting(NONCE_SIZE));
-    let (ad, message) = (counting(vector.ad_len), counting(vector.message_len));
-    let payload = payload(&key, &nonce, &ad, &message).unwrap_or_default();
+fn sealed(vector: &Sealed) -> Vec<Check> {
+    let job = Job::counting(vector.ad_len, vector.message_len);
+    let of_edition = |(edition, end)| of_edition(&job, edition, end);
+    vector.by_edition().flat_map(of_edition).collect()
+}
+
+/// The payload ends so, and opens under its own edition and with its own tag alone.
+fn of_edition(job: &Job, edition: u32, end: &str) -> [Check; 4] {
+    let payload = job.seal(edition).unwrap_or_default();
     let mut damaged = payload.clone();
     if let Some(last) = damaged.last_mut() {
         *last ^= 1;
     }
-    let open = |payload: &[u8]| {
-        let mut out = vec![0xa5; message.len()];
-        (archive::open(&key, &nonce, &ad, payload, &mut out), out)
-    };
-    let name = format!("AD of {}, message of {}", ad.len(), message.len());
+    let other = if edition == 1 { 2 } else { 1 };
+    let (ad_len, message_len) = (job.ad.len(), job.message.len());
+    let name = format!("edition {edition}, AD of {ad_len}, message of {message_len}");
     [
         check(
             format!("{name}: sealed as stored"),
-            hex::encode(&payload).ends_with(vector.end),
+            hex::encode(&payload).ends_with(end),
         ),
         check(
             format!("{name}: opened again"),
-            open(&payload) == (message.len() as i64, message.clone()),
+            job.opens(edition, &payload),
         ),
         check(
             format!("{name}: a wrong tag refused, and nothing written"),
-            open(&damaged) == (-7, vec![0xa5; message.len()]),
+            job.open_refused(edition, &damaged, 7),
+        ),
+        check(
+            format!("{name}: edition {other} refuses it, and nothing is written"),
+            job.open_refused(other, &payload, 7),
         ),
     ]
 }
 
-/// The sealed payload, where sealing fills an output of exactly its length.
-fn payload(key: &[u8], nonce: &[u8], ad: &[u8], message: &[u8]) -> Option<Vec<u8>> {
-    let mut out = vec![0; message.len() + TAG_SIZE];
-    let answer = archive::seal(key, nonce, ad, message, &mut out);
-    (answer == out.len() as i64).then_some(out)
+fn unnamed() -> [Check; 2] {
+    let job = Job::counting(8, 16);
+    let payload = job.seal(1).unwrap_or_default();
+    [
+        check(
+            "sealed as under edition 1".to_string(),
+            job.seals_unnamed(&payload),
+        ),
+        check(
+            "opened as under edition 1".to_string(),
+            job.opens_unnamed(&payload),
+        ),
+    ]
+}
+
+/// A payload of edition 1 is what open gets.
+fn unknown(edition: u32) -> [Check; 2] {
+    let job = Job::counting(8, 16);
+    let payload = job.seal(1).unwrap_or_default();
+    [
+        check(
+            format!("{edition}: seal refuses it with 23, and nothing is written"),
+            job.seal_refused(edition, 23),
+        ),
+        check(
+            format!("{edition}: open refuses it with 23, and nothing is written"),
+            job.open_refused(edition, &payload, 23),
+        ),
+    ]
 }

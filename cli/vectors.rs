@@ -2,8 +2,8 @@
 
 use crate::sizes::{AD_MAX, KEY_SIZE, MESSAGE_MAX, NONCE_SIZE};
 
-/// A vector of the designers' paper, appendix A. Its string is as printed: without a coded AD length,
-/// and with zeros after the final 1, which add nothing to the tag.
+/// A vector of the designers' paper, appendix A, of the first edition. Its string is as printed:
+/// without a coded AD length, and with zeros after the final 1, which add nothing to the tag.
 pub struct Published {
     pub key: [u8; KEY_SIZE],
     pub nonce: [u8; NONCE_SIZE],
@@ -80,7 +80,7 @@ pub const PUBLISHED: [Published; 2] = [
     },
 ];
 
-/// What the machine makes under the blank key, and what versions before 3.0.0 sealed.
+/// What the first edition makes under the blank key, and what versions before 3.0.0 sealed.
 pub struct UnderBlankKey {
     pub nonce: [u8; NONCE_SIZE],
     pub ad: &'static [u8],
@@ -103,28 +103,61 @@ pub const UNDER_BLANK_KEY: UnderBlankKey = UnderBlankKey {
 pub struct Sealed {
     pub ad_len: usize,
     pub message_len: usize,
-    /// The payload in hex: all of it, or the last 16 bytes of a long one.
-    pub end: &'static str,
+    /// The payload in hex, of edition 1 and of edition 2: all of it, or the last 16 bytes of a long
+    /// one.
+    pub ends: [&'static str; 2],
 }
 
-const fn sealed(ad_len: usize, message_len: usize, end: &'static str) -> Sealed {
+const fn sealed(
+    ad_len: usize,
+    message_len: usize,
+    first: &'static str,
+    second: &'static str,
+) -> Sealed {
     Sealed {
         ad_len,
         message_len,
-        end,
+        ends: [first, second],
+    }
+}
+
+impl Sealed {
+    /// The number of each edition, and what its payload ends with.
+    pub fn by_edition(&self) -> impl Iterator<Item = (u32, &'static str)> {
+        (1..).zip(self.ends)
     }
 }
 
 pub const SEALED: [Sealed; 9] = [
-    sealed(0, 0, "97ce60c2f47910e8"),
-    sealed(0, 1, "f0675373bd7136adec"),
-    sealed(1, 0, "06caa4e3901529b6"),
-    sealed(8, 16, "47fd828e70ea670e6ebe4f5a8e9c9437a7da12cc950440d2"),
-    sealed(127, 3, "a28985ecba39968627ff89"),
-    sealed(128, 3, "879725b1c85dad6c351e4d"),
-    sealed(255, 5, "bfd751df1134fb8775300b3be8"),
-    sealed(256, 5, "53dd1742b35db39776db2d3b69"),
-    sealed(AD_MAX, MESSAGE_MAX, "66457539f7c2bb922e7e7a4f76b33c0a"),
+    sealed(0, 0, "97ce60c2f47910e8", "d51fd5d16177b434"),
+    sealed(0, 1, "f0675373bd7136adec", "21aaa5a068ea941db3"),
+    sealed(1, 0, "06caa4e3901529b6", "99b7cdbf488f8dc0"),
+    sealed(
+        8,
+        16,
+        "47fd828e70ea670e6ebe4f5a8e9c9437a7da12cc950440d2",
+        "96d1bda7ae11f0ba88bd33ea869b83a6d9240cb51acdec36",
+    ),
+    sealed(127, 3, "a28985ecba39968627ff89", "5f478f4b94d2ced13b24c2"),
+    sealed(128, 3, "879725b1c85dad6c351e4d", "8d1144d627f52472a29399"),
+    sealed(
+        255,
+        5,
+        "bfd751df1134fb8775300b3be8",
+        "fbca9e335da83f05610c665e61",
+    ),
+    sealed(
+        256,
+        5,
+        "53dd1742b35db39776db2d3b69",
+        "9c315b20baa956536b2061fcca",
+    ),
+    sealed(
+        AD_MAX,
+        MESSAGE_MAX,
+        "66457539f7c2bb922e7e7a4f76b33c0a",
+        "7aa6b6c0490ec4763ce510d670a1f608",
+    ),
 ];
 
 /// The bytes 00 01 02 .., beginning again after ff.

@@ -15,10 +15,24 @@ sealed_max=$((message_max + $(defined TAG_SIZE)))
 
 key=000102030405060708090a0b0c0d0e0f
 nonce=000102030405060708090a0b
-secrets=(--key "$key" --nonce "$nonce")
-wrong_tag="the tag is wrong: the key, the nonce, the associated data or the sealed input is not as it was sealed"
 sealed_before="a version before 2.0.0 sealed it: what those sealed with associated data of 128 to 255 bytes no longer opens"
 checks=0
+
+under() { # [EDITION]: what follows names this edition, or none and means edition 1
+  edition=${1:-1} other=2 named=()
+  [ "$edition" = 1 ] || other=1
+  [ $# = 0 ] || named=(--edition "$1")
+  secrets=(--key "$key" --nonce "$nonce" "${named[@]}")
+}
+
+wrong_tag() { # [WHY]: what is said of a wrong tag
+  local said="the tag is wrong: the key, the nonce, the associated data or the sealed input is not as it was sealed"
+  echo "$said${1:+, or $1}, or it was sealed under edition $other (--edition $other)"
+}
+
+of_edition() { # FIRST SECOND: the one that goes with the edition
+  [ "$edition" = 1 ] && echo "$1" || echo "$2"
+}
 
 check() { # WHAT COMMAND...: the command succeeds
   checks=$((checks + 1))
@@ -70,9 +84,9 @@ round_trips() {
   bytes "$ad_max" | tr '\0' 'a' >ad
   for size in 0 1 8 1000 "$message_max"; do
     yes "engine 2400 rpm" | head -c "$size" >input
-    run 0 seal --key-file key --nonce-file nonce --ad-file ad --in input --out sealed
+    run 0 seal "${named[@]}" --key-file key --nonce-file nonce --ad-file ad --in input --out sealed
     check "size of the payload" [ "$(wc -c <sealed)" = $((size + 8)) ]
-    run 0 open --key-file key --nonce-file nonce --ad-file ad --in sealed --out opened
+    run 0 open --key-file key --nonce-file nonce --ad-file ad --in sealed --out opened "${named[@]}"
     check "files, $size bytes" cmp input opened
     run 0 seal "${secrets[@]}" --ad 0102
     cp input message && cp output input
@@ -84,7 +98,8 @@ round_trips() {
 hex() {
   echo "00 01 02 03 04 05 06 07 08090A0B0C0D0E0F" >input
   run 0 seal "${secrets[@]}" --ad 0001020304050607 --hex-in --hex-out
-  check "known answer" [ "$(cat output)" = 47fd828e70ea670e6ebe4f5a8e9c9437a7da12cc950440d2 ]
+  check "known answer" [ "$(cat output)" = "$(
+    of_edition 47fd828e70ea670e6ebe4f5a8e9c9437a7da12cc950440d2 96d1bda7ae11f0ba88bd33ea869b83a6d9240cb51acdec36)" ]
   cp output input
   run 0 open "${secrets[@]}" --ad 0001020304050607 --hex-in --hex-out --out opened
   check "opened in hex" [ "$(cat opened)" = 000102030405060708090a0b0c0d0e0f ]
@@ -92,37 +107,39 @@ hex() {
 }
 
 ad_lengths() { # sealed and opened at the borders of the forms in which the length is coded, and at the limit
-  local counting size payload
+  local counting size first second before=''
   counting=$(yes "$(printf '%02x' {0..255})" | head -n $((ad_max / 256 + 1)) | tr -d '\n')
-  while read -r size payload; do
+  while read -r size first second; do
     echo 00 >input
     run 0 seal "${secrets[@]}" --ad "${counting:0:2*size}" --hex-in --hex-out
-    check "sealed with an AD of $size bytes" [ "$(cat output)" = "$payload" ]
+    check "sealed with an AD of $size bytes" [ "$(cat output)" = "$(of_edition "$first" "$second")" ]
     cp output input
     run 0 open "${secrets[@]}" --ad "${counting:0:2*size}" --hex-in --hex-out
     check "opened with an AD of $size bytes" [ "$(cat output)" = 00 ]
   done <<END
-127 a2207cc5f6ba726f2e
-128 874da861f8fc923ac3
-255 bfd25bb44ddede2220
-256 536e8b79a3c2e58bc7
-$ad_max 8560c8a34f0fd0d1fe
+127 a2207cc5f6ba726f2e 5fc4d42667f661984d
+128 874da861f8fc923ac3 8d228ed27ece2d5097
+255 bfd25bb44ddede2220 fbf25bba1cf5747465
+256 536e8b79a3c2e58bc7 9c162baa790a6584c3
+$ad_max 8560c8a34f0fd0d1fe 4aadca1b3d20b902dc
 END
-  # Sealed by a version before 2.0.0, which coded these lengths with 0x82 and two bytes.
-  while read -r size payload; do
-    echo "$payload" >input
-    refuses 7 "$wrong_tag, or $sealed_before" open "${secrets[@]}" --ad "${counting:0:2*size}" --hex-in
+  # Versions before 2.0.0 coded these lengths with 0x82 and two bytes, and sealed under edition 1.
+  [ "$edition" = 2 ] || before=$sealed_before
+  while read -r size first second; do
+    of_edition "$first" "$second" >input
+    refuses 7 "$(wrong_tag "$before")" open "${secrets[@]}" --ad "${counting:0:2*size}" --hex-in
   done <<'END'
-128 9635b961e8b68c5125
-255 d6c66cd4cafa94b22a
+128 9635b961e8b68c5125 10ce32857c6d2a561b
+255 d6c66cd4cafa94b22a cb1b5ae747340ea4d4
 END
   for size in 127 256; do
-    refuses 7 "$wrong_tag" open "${secrets[@]}" --ad "${counting:0:2*size}" --hex-in
+    refuses 7 "$(wrong_tag)" open "${secrets[@]}" --ad "${counting:0:2*size}" --hex-in
   done
 }
 
 another_tag() { # the tag of AD a5 and message 3c, under the AD and the ciphertext of pairs of other lengths
-  local options=(--key 0123456789abcdef123456789abcdef0 --nonce 0123456789abcdef12345678 --hex-in --hex-out) payload tag
+  local payload tag
+  local options=(--key 0123456789abcdef123456789abcdef0 --nonce 0123456789abcdef12345678 --hex-in --hex-out)
   echo 3c >input
   run 0 seal "${options[@]}" --ad a5
   payload=$(cat output) tag=d6c32c33d667067f
@@ -131,7 +148,7 @@ another_tag() { # the tag of AD a5 and message 3c, under the AD and the cipherte
   run 0 seal "${options[@]}" --ad a53c
   payload=$(cat output)
   echo "${payload::-16}$tag" >input
-  refuses 7 "$wrong_tag" open "${options[@]}" --ad a53c
+  refuses 7 "$(wrong_tag)" open "${options[@]}" --ad a53c
   echo 812944edc3157ad6 >input
   run 0 seal "${options[@]}" --ad a53c
   check "AD a53c, message 812944edc3157ad6" [ "$(cat output)" = "4793b233639328d6$tag" ]
@@ -182,15 +199,15 @@ parts() {
 refusals() {
   local said
   bytes 20 >input
-  refuses 1 "the key is 15 bytes, and must be 16" seal --key "${key%??}" --nonce "$nonce"00
-  refuses 1 "the key is 0 bytes, and must be 16" open --key "" --nonce "$nonce"
-  refuses 1 "the key is 1 byte, and must be 16" open --key 00 --nonce "$nonce"
-  refuses 2 "the nonce is 13 bytes, and must be 12" seal --key "$key" --nonce "$nonce"00
+  refuses 1 "the key is 15 bytes, and must be 16" seal "${named[@]}" --key "${key%??}" --nonce "$nonce"00
+  refuses 1 "the key is 0 bytes, and must be 16" open "${named[@]}" --key "" --nonce "$nonce"
+  refuses 1 "the key is 1 byte, and must be 16" open "${named[@]}" --key 00 --nonce "$nonce"
+  refuses 2 "the nonce is 13 bytes, and must be 12" seal "${named[@]}" --key "$key" --nonce "$nonce"00
   bytes $((ad_max + 1)) >ad
   said="the associated data is $((ad_max + 1)) bytes, and may be at most $ad_max"
   refuses 3 "$said" seal "${secrets[@]}" --ad-file ad
   refuses 3 "$said" open "${secrets[@]}" --ad-file ad
-  refuses 7 "$wrong_tag" open "${secrets[@]}"
+  refuses 7 "$(wrong_tag)" open "${secrets[@]}"
   bytes $((message_max + 1)) >input
   refuses 4 "the message is $((message_max + 1)) bytes, and may be at most $message_max" seal "${secrets[@]}"
   for size in $((sealed_max + 1)) $((2 * sealed_max)); do
@@ -210,25 +227,100 @@ blank_key() {
   bytes 16 >key
   bytes $((ad_max + 1)) >ad
   bytes 20 >input
-  refuses 15 "$seal" seal --key "$zeros" --nonce "$nonce"
-  refuses 15 "$seal" seal --key-file key --nonce "$nonce" --ad-file ad
-  refuses 15 "$open" open --key "$zeros" --nonce "$nonce"
+  refuses 15 "$seal" seal "${named[@]}" --key "$zeros" --nonce "$nonce"
+  refuses 15 "$seal" seal "${named[@]}" --key-file key --nonce "$nonce" --ad-file ad
+  refuses 15 "$open" open "${named[@]}" --key "$zeros" --nonce "$nonce"
   bytes $((sealed_max + 1)) >input
-  refuses 15 "$seal" seal --key "$zeros" --nonce "$nonce" --ad-file ad
-  refuses 15 "$open" open --key "$zeros" --nonce "$nonce" --ad-file ad
+  refuses 15 "$seal" seal "${named[@]}" --key "$zeros" --nonce "$nonce" --ad-file ad
+  refuses 15 "$open" open "${named[@]}" --key "$zeros" --nonce "$nonce" --ad-file ad
   bytes 7 >input
-  refuses 15 "$open" open --key "$zeros" --nonce "$nonce"
-  refuses 2 "the nonce is 11 bytes, and must be 12" open --key "$zeros" --nonce "${nonce%??}"
-  refuses 1 "the key is 15 bytes, and must be 16" seal --key "${zeros%??}" --nonce "$nonce"
-  refuses 1 "the key is 17 bytes, and must be 16" open --key "$zeros"00 --nonce "$nonce"
+  refuses 15 "$open" open "${named[@]}" --key "$zeros" --nonce "$nonce"
+  refuses 2 "the nonce is 11 bytes, and must be 12" open "${named[@]}" --key "$zeros" --nonce "${nonce%??}"
+  refuses 1 "the key is 15 bytes, and must be 16" seal "${named[@]}" --key "${zeros%??}" --nonce "$nonce"
+  refuses 1 "the key is 17 bytes, and must be 16" open "${named[@]}" --key "$zeros"00 --nonce "$nonce"
   echo "$before" >input # sealed by a version before 3.0.0
-  refuses 15 "$open" open --key "$zeros" --nonce 000000000000000000000001 --ad 07e8 --hex-in
+  refuses 15 "$open" open "${named[@]}" --key "$zeros" --nonce 000000000000000000000001 --ad 07e8 --hex-in
   for one_bit in "80${zeros:2}" "${zeros:2}01"; do
     echo 00 >input
-    run 0 seal --key "$one_bit" --nonce "$nonce" --out sealed
-    run 0 open --key "$one_bit" --nonce "$nonce" --in sealed --out opened
+    run 0 seal "${named[@]}" --key "$one_bit" --nonce "$nonce" --out sealed
+    run 0 open "${named[@]}" --key "$one_bit" --nonce "$nonce" --in sealed --out opened
     check "a key with one bit" cmp input opened
   done
+}
+
+the_other_edition() { # FIRST SECOND: what one edition seals the other refuses
+  under "$1"
+  echo "engine 2400 rpm" >input
+  run 0 seal "${secrets[@]}" --ad 07e8 --out sealed
+  under "$2"
+  refuses 7 "$(wrong_tag)" open "${secrets[@]}" --ad 07e8 --in sealed
+  under "$1"
+  run 0 open "${secrets[@]}" --ad 07e8 --in sealed
+  check "sealed and opened under edition $1" cmp input output
+}
+
+edition_numbers() { # a number is taken by its value, and none is the first edition
+  local first second
+  under
+  echo "engine 2400 rpm" >input
+  run 0 seal "${secrets[@]}" --hex-out
+  first=$(cat output)
+  run 0 seal "${secrets[@]}" --hex-out --edition 2
+  second=$(cat output)
+  check "the two payloads differ" [ "$first" != "$second" ]
+  for one in 1 01 0000000000000000000000000000000000000001; do
+    run 0 seal "${secrets[@]}" --hex-out --edition "$one"
+    check "--edition $one" [ "$(cat output)" = "$first" ]
+  done
+  for two in 2 02 0000000000000000000000000000000000000002; do
+    run 0 seal "${secrets[@]}" --hex-out "--edition=$two"
+    check "--edition=$two" [ "$(cat output)" = "$second" ]
+  done
+}
+
+# Of the large numbers each is 1 or 2 where it is cut to 8, 16, 32, 64 or 128 bits.
+unknown_editions() {
+  local said
+  under
+  echo "engine 2400 rpm" >input
+  run 0 seal "${secrets[@]}" --out sealed
+  for number in 0 3 00 003 10 12 21 257 258 65537 65538 2147483648 4294967295 4294967296 4294967297 4294967298 \
+    18446744073709551617 18446744073709551618 340282366920938463463374607431768211457; do
+    said="the edition is $number, and must be 1 or 2"
+    refuses 23 "$said" seal "${secrets[@]}" --edition "$number"
+    refuses 23 "$said" open "${secrets[@]}" "--edition=$number" --in sealed
+  done
+  said="the edition is 3, and must be 1 or 2" # before every other refusal
+  refuses 23 "$said" seal --edition 3 --key "${key%??}" --nonce "$nonce"00
+  refuses 23 "$said" open --key "" --nonce "" --edition 3
+  refuses 23 "$said" seal --edition 3 --key "$key" --nonce "$nonce"00
+  refuses 23 "$said" seal --edition 3 --key 00000000000000000000000000000000 --nonce "$nonce"
+  bytes $((ad_max + 1)) >ad
+  refuses 23 "$said" open "${secrets[@]}" --edition 3 --ad-file ad
+  bytes $((sealed_max + 1)) >input
+  refuses 23 "$said" seal "${secrets[@]}" --edition 3
+  refuses 23 "$said" open "${secrets[@]}" --edition 3
+  bytes 7 >input
+  refuses 23 "$said" open "${secrets[@]}" --edition 3
+  bytes 20 >input
+  refuses 23 "$said" open "${secrets[@]}" --edition 3
+}
+
+no_number() { # an edition that is no number is wrong usage, for either command
+  under
+  : >input
+  for text in x '' -1 +1 1.5 1.0 ' 1' '1 ' 1,2 '1|2' 0x1 1e0 one I ² １ v2; do
+    misused "--edition: '$text' is no number in decimal digits" seal "${secrets[@]}" --edition "$text"
+    misused "--edition: '$text' is no number in decimal digits" open "${secrets[@]}" "--edition=$text"
+  done
+  misused "--edition has no value" seal "${secrets[@]}" --edition
+  misused "--edition has no value" open --edition "${secrets[@]}"
+  misused "--edition is given twice" seal "${secrets[@]}" --edition 1 --edition 1
+  misused "unknown option '--edition'" parts --edition 1
+  misused "unexpected argument '--edition'" selftest --edition 1
+  # Wrong usage comes before a refusal, which is an answer of the library's.
+  misused "--key: 'x' at place 2 is no hex digit" seal --edition 3 --key 0x00 --nonce "$nonce"
+  misused "--nonce or --nonce-file is needed" open --edition 3 --key "$key"
 }
 
 wrong_usage() {
@@ -276,6 +368,10 @@ help_and_selftest() {
   check "--help shows the usage" grep -q "^usage: tikhoplav seal" output
   check "--help has the limit of the AD" grep -q "3 the AD is over $ad_max bytes" output
   check "--help has the blank key" grep -q "15 the key is 16 zero bytes" output
+  check "--help has the edition first" \
+    [ "$(sed -n '/in this order:$/{n;p;}' output)" = "        23 the edition is a number other than 1 and 2" ]
+  check "--help says that the editions don't open one another" grep -q "The two don't open one another" output
+  check "--help says which edition to expect" grep -q "A partner's box is likely to speak edition 2 if" output
   check "--help has the limits of the data" \
     grep -q "4 the message is over $message_max bytes, or the sealed input over $sealed_max" output
   cp output help
@@ -287,25 +383,35 @@ help_and_selftest() {
   bytes 12 >0001.nonce
   sed -n '/^EXAMPLES/,$s/^    //p' help >examples
   check "the examples of --help" env PATH="$(dirname "$tool"):$PATH" sh -e examples >shown
-  check "the example in hex" grep -qE '^[0-9a-f]{46}$' shown
+  check "the examples in hex, of each edition" [ "$(grep -cE '^[0-9a-f]{46}$' shown)" = 2 ]
   check "the example of a file" cmp log.bin log.copy
   run 0 parts --in log.sealed
   check "the example of the parts" cmp output <(tail -n 2 shown)
   run 0 --version
   check "--version" [ "$(cat output)" = "tikhoplav $version" ]
   run 0 selftest
-  check "selftest" [ "$(tail -n 1 output)" = "31 passed, 0 failed" ]
+  check "selftest" [ "$(tail -n 1 output)" = "86 passed, 0 failed" ]
   check "selftest says which published vector it leaves out" grep -q "^  Published vector 1 is under this key" output
 }
 
-round_trips
-hex
-ad_lengths
+for named_edition in '' 1 2; do
+  under ${named_edition:+"$named_edition"}
+  round_trips
+  hex
+  ad_lengths
+  file_in_place
+  refusals
+  blank_key
+done
+under
 another_tag
-file_in_place
 parts
-refusals
-blank_key
+the_other_edition 1 2
+the_other_edition 2 1
+edition_numbers
+unknown_editions
+no_number
+under
 wrong_usage
 input_and_output_fail
 help_and_selftest
