@@ -34,6 +34,7 @@ pub fn longer(judge: &mut Judge) -> Verdict {
             let sealing = judge.sealing(ad_len, 20);
             let opening = Trial {
                 data: model::payload(
+                    sealing.known_edition(),
                     &sealing.key,
                     &sealing.nonce,
                     &coded_in(count, ad_len),

@@ -24,15 +24,39 @@ struct Flips {
     ciphertext: Vec<u8>,
 }
 
+/// A sealing, and the register's contents at the positions of its AD and message.
+struct Genuine {
+    sealing: Trial,
+    registers: Vec<u64>,
+}
+
+impl Genuine {
+    /// The string begins with the coded AD length, whose bits are never flipped.
+    fn new(sealing: Trial) -> Genuine {
+        let before = 8 * model::coded_length(sealing.ad.len()).len();
+        let positions = before + 8 * (sealing.ad.len() + sealing.data.len());
+        Genuine {
+            registers: registers::contents(&sealing, positions).split_off(before),
+            sealing,
+        }
+    }
+
+    fn sum_of_registers(&self, flips: &Flips) -> u64 {
+        let flips = [&flips.ad[..], &flips.ciphertext].concat();
+        let bits = self.sealing.known_edition().bits(&flips);
+        registers::sum(&self.registers, &bits)
+    }
+}
+
 pub fn every_position(judge: &mut Judge) -> Verdict {
     for (ad_len, message_len) in [(0, 6), (6, 0), (4, 5), (128, 3)] {
-        let sealing = judge.sealing(ad_len, message_len);
+        let genuine = Genuine::new(judge.sealing(ad_len, message_len));
         for position in 0..8 * (ad_len + message_len) {
             let mut ad = vec![0; ad_len + message_len];
-            ad[position / 8] = 0x80 >> (position % 8);
+            ad[position / 8] = genuine.sealing.known_edition().mask(position);
             let ciphertext = ad.split_off(ad_len);
             let changes = [1, judge.random.number() | 1];
-            both_directions(judge, &sealing, &Flips { ad, ciphertext }, &changes)?;
+            both_directions(judge, &genuine, &Flips { ad, ciphertext }, &changes)?;
         }
     }
     Ok(())
@@ -45,18 +69,18 @@ pub fn random(judge: &mut Judge) -> Verdict {
         let changes: Vec<u64> = every_tag_bit.clone().chain([any, u64::MAX]).collect();
         let ad_len = judge.random.pick(&[0, 1, 7, 30, 127, 128, 140, 255, 256]);
         let message_len = judge.random.below(60);
-        let sealing = judge.sealing(ad_len, message_len);
-        for flips in choices(judge, &sealing) {
-            both_directions(judge, &sealing, &flips, &changes)?;
+        let genuine = Genuine::new(judge.sealing(ad_len, message_len));
+        for flips in choices(judge, &genuine.sealing) {
+            both_directions(judge, &genuine, &flips, &changes)?;
         }
     }
     Ok(())
 }
 
 pub fn largest(judge: &mut Judge) -> Verdict {
-    let sealing = judge.sealing(AD_MAX, MESSAGE_MAX);
-    for flips in choices(judge, &sealing) {
-        both_directions(judge, &sealing, &flips, &[1, 1 << 63])?;
+    let genuine = Genuine::new(judge.sealing(AD_MAX, MESSAGE_MAX));
+    for flips in choices(judge, &genuine.sealing) {
+        both_directions(judge, &genuine, &flips, &[1, 1 << 63])?;
     }
     Ok(())
 }
@@ -84,13 +108,19 @@ fn choices(judge: &mut Judge, sealing: &Trial) -> Vec<Flips> {
 }
 
 /// Opens with the sum as the tag's flips, and with the sum changed in each of the given ways.
-fn both_directions(judge: &mut Judge, sealing: &Trial, flips: &Flips, changes: &[u64]) -> Verdict {
+fn both_directions(
+    judge: &mut Judge,
+    genuine: &Genuine,
+    flips: &Flips,
+    changes: &[u64],
+) -> Verdict {
+    let sealing = &genuine.sealing;
     let mut opening = judge.opening(sealing);
     let (ciphertext, tag) = opening.data.split_at_mut(sealing.data.len());
     add(&mut opening.ad, &flips.ad);
     add(ciphertext, &flips.ciphertext);
-    let sum = sum_of_registers(sealing, flips);
-    add(tag, &sum.to_be_bytes());
+    let sum = genuine.sum_of_registers(flips);
+    add(tag, &registers::spelled(sealing, sum));
     let mut message = sealing.data.clone();
     add(&mut message, &flips.ciphertext);
     let room = message.len() + judge.random.below(9);
@@ -99,7 +129,8 @@ fn both_directions(judge: &mut Judge, sealing: &Trial, flips: &Flips, changes: &
     let untouched_tag = [sum].into_iter().filter(|&change| change != 0);
     for change in changes.iter().copied().chain(untouched_tag) {
         let mut refused = opening.clone();
-        add(&mut refused.data[message.len()..], &change.to_be_bytes());
+        let change = registers::spelled(sealing, change);
+        add(&mut refused.data[message.len()..], &change);
         judge.expect(&refused, &refused.refusal(7))?;
     }
     Ok(())
@@ -109,11 +140,4 @@ fn add(bytes: &mut [u8], flips: &[u8]) {
     for (byte, flip) in bytes.iter_mut().zip(flips) {
         *byte ^= flip;
     }
-}
-
-/// The string begins with the coded AD length, whose bits are never flipped.
-fn sum_of_registers(sealing: &Trial, flips: &Flips) -> u64 {
-    let coded_length = vec![0; model::coded_length(sealing.ad.len()).len()];
-    let bits = model::bits(&[&coded_length, &flips.ad[..], &flips.ciphertext].concat());
-    registers::sum(&registers::contents(sealing, bits.len()), &bits)
 }

@@ -21,6 +21,7 @@ pub fn blank(judge: &mut Judge) -> Verdict {
         let opening = Trial {
             call: Call::Open,
             data: model::payload(
+                sealing.known_edition(),
                 &sealing.key,
                 &sealing.nonce,
                 &model::coded_length(ad_len),

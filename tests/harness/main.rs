@@ -1,7 +1,8 @@
-//! The archive beside the independent implementation, on seeded random inputs.
+//! The archive beside the independent implementation, on seeded random inputs of both editions.
 
 mod ad_lengths;
 mod damage;
+mod editions;
 mod flips;
 mod judge;
 mod keys;
@@ -16,25 +17,28 @@ mod two_tags;
 mod vectors;
 
 use judge::{Judge, Verdict};
-use random::Random;
 use std::process::ExitCode;
 
 const SEED: u64 = 128;
 
 type Group = fn(&mut Judge) -> Verdict;
 
-const GROUPS: [(&str, Group); 25] = [
+/// Those that make no trial of an edition.
+const ONCE: [(&str, Group); 3] = [
     ("published vectors, on the model", vectors::published),
     (
         "stored answers of the selftest, on the model",
         vectors::stored,
     ),
+    ("parts of sealed inputs", parts::run),
+];
+
+const OF_EACH_EDITION: [(&str, Group); 24] = [
     ("small sizes", sizes::small),
     ("sizes at the limits", sizes::limits),
     ("AD lengths, around every border", ad_lengths::shortest),
     ("AD lengths coded in a longer form", ad_lengths::longer),
     ("sealed inputs short and long", sizes::sealed_inputs),
-    ("parts of sealed inputs", parts::run),
     ("sizes of keys and nonces", sizes::keys_and_nonces),
     ("the blank key", keys::blank),
     ("keys of zeros", keys::zeros),
@@ -52,6 +56,8 @@ const GROUPS: [(&str, Group); 25] = [
     ("two tags of random lengths", two_tags::random),
     ("two tags of chosen lengths", two_tags::chosen),
     ("two pairs with one tag", two_tags::colliding),
+    ("payloads of the other edition", editions::crossed),
+    ("numbers that are no edition's", editions::unknown),
 ];
 
 fn main() -> ExitCode {
@@ -76,14 +82,21 @@ fn main() -> ExitCode {
     }
 }
 
-/// Runs every group, each from the seed, and counts the comparisons.
+/// Counts the comparisons of all groups.
 fn run(seed: u64) -> Result<usize, String> {
+    let mut total = run_groups(&ONCE, 1, seed)?;
+    for edition in [1, 2] {
+        println!("edition {edition}");
+        total += run_groups(&OF_EACH_EDITION, edition, seed)?;
+    }
+    Ok(total)
+}
+
+/// Runs each group from the seed.
+fn run_groups(groups: &[(&str, Group)], edition: u32, seed: u64) -> Result<usize, String> {
     let mut total = 0;
-    for (name, group) in GROUPS {
-        let mut judge = Judge {
-            random: Random::seeded(seed),
-            comparisons: 0,
-        };
+    for (name, group) in groups {
+        let mut judge = Judge::new(edition, seed);
         group(&mut judge).map_err(|mismatch| format!("MISMATCH in {name}: {mismatch}"))?;
         println!("{:>8}  {name}", judge.comparisons);
         total += judge.comparisons;

@@ -8,9 +8,9 @@ use tikhoplav::sizes::{AD_MAX, MESSAGE_MAX, SEALED_MAX, TAG_SIZE};
 pub fn run(judge: &mut Judge) -> Verdict {
     let sealing = judge.sealing(10, 20);
     let opening = judge.opening(&sealing);
-    every_set(judge, &sealing, &[1, 2, 15, 3, 4, 6])?;
-    every_set(judge, &opening, &[1, 2, 15, 3, 4, 6, 7])?;
-    every_set(judge, &opening, &[1, 2, 15, 3, 5, 7])
+    every_set(judge, &sealing, &[23, 1, 2, 15, 3, 4, 6])?;
+    every_set(judge, &opening, &[23, 1, 2, 15, 3, 4, 6, 7])?;
+    every_set(judge, &opening, &[23, 1, 2, 15, 3, 5, 7])
 }
 
 /// Makes every set of these rows apply but the empty one; the first of the set is the answer. (Rows
@@ -31,6 +31,7 @@ fn every_set(judge: &mut Judge, legal: &Trial, rows: &[u8]) -> Verdict {
 /// Makes a row apply, and keeps the rows above it as they are.
 fn make_apply(trial: &mut Trial, row: u8) {
     match (row, trial.call) {
+        (23, _) => trial.edition += 2,
         (1, _) => trial.key.truncate(15),
         (2, _) => trial.nonce.push(0),
         (15, _) => trial.key.fill(0),

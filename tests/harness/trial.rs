@@ -1,11 +1,13 @@
 //! One input, and what a call makes of it.
 
+use model::Edition;
 use tikhoplav::archive::Call;
 use tikhoplav::hex;
 
 #[derive(Clone)]
 pub struct Trial {
     pub call: Call,
+    pub edition: u32,
     pub key: Vec<u8>,
     pub nonce: Vec<u8>,
     pub ad: Vec<u8>,
@@ -23,12 +25,30 @@ pub struct Outcome {
 }
 
 impl Trial {
+    /// By the call that names the edition.
     pub fn by_archive(&self) -> Outcome {
+        let mut out = self.lent.clone();
+        let answer = self.call.run(
+            self.edition,
+            &self.key,
+            &self.nonce,
+            &self.ad,
+            &self.data,
+            &mut out,
+        );
+        Outcome { answer, out }
+    }
+
+    /// By the call that names none, which is for edition 1.
+    pub fn by_unnamed_call(&self) -> Option<Outcome> {
+        if self.edition != 1 {
+            return None;
+        }
         let mut out = self.lent.clone();
         let answer = self
             .call
-            .run(&self.key, &self.nonce, &self.ad, &self.data, &mut out);
-        Outcome { answer, out }
+            .run_unnamed(&self.key, &self.nonce, &self.ad, &self.data, &mut out);
+        Some(Outcome { answer, out })
     }
 
     pub fn by_model(&self) -> Outcome {
@@ -37,6 +57,7 @@ impl Trial {
             Call::Open => model::open,
         };
         match run(
+            self.edition,
             &self.key,
             &self.nonce,
             &self.ad,
@@ -46,6 +67,11 @@ impl Trial {
             Ok(written) => self.success(&written),
             Err(number) => self.refusal(number),
         }
+    }
+
+    /// The edition, where it is known.
+    pub fn known_edition(&self) -> Edition {
+        Edition::numbered(self.edition).expect("an edition that is known")
     }
 
     /// The count, the bytes at the front, and behind them the output as lent.
@@ -66,6 +92,17 @@ impl Trial {
         }
     }
 
+    /// The call and the inputs of another, and no less room.
+    pub fn repeats(&self, other: &Trial) -> bool {
+        (self.call, self.edition) == (other.call, other.edition)
+            && self.inputs() == other.inputs()
+            && self.lent.len() >= other.lent.len()
+    }
+
+    fn inputs(&self) -> [&[u8]; 4] {
+        [&self.key, &self.nonce, &self.ad, &self.data]
+    }
+
     /// The same under the key and the nonce of another.
     pub fn under(self, other: &Trial) -> Trial {
         Trial {
@@ -78,8 +115,9 @@ impl Trial {
     /// The input in hex, for a report.
     pub fn shown(&self) -> String {
         format!(
-            "{:?}\n  key      {}\n  nonce    {}\n  ad       {}\n  data     {}\n  lent     {}\n",
+            "{:?}, edition {}\n  key      {}\n  nonce    {}\n  ad       {}\n  data     {}\n  lent     {}\n",
             self.call,
+            self.edition,
             hex::encode(&self.key),
             hex::encode(&self.nonce),
             hex::encode(&self.ad),

@@ -57,8 +57,9 @@ pub fn colliding(judge: &mut Judge) -> Verdict {
 
 /// The message with a byte more, whose first bit stands where the other string has its final 1.
 fn longer(sealing: &Trial) -> Trial {
+    let final_1 = sealing.known_edition().mask(0);
     Trial {
-        data: [&sealing.data[..], &[0x80]].concat(),
+        data: [&sealing.data[..], &[final_1]].concat(),
         lent: [&sealing.lent[..], &[0]].concat(),
         ..sealing.clone()
     }
@@ -113,15 +114,14 @@ fn collide(judge: &mut Judge, first: &Trial, mut second: Trial) -> Verdict {
 /// The tag that the archive gives.
 fn tag(sealing: &Trial) -> u64 {
     let out = sealing.by_archive().out;
-    let tag = out[sealing.data.len()..].try_into();
-    u64::from_be_bytes(tag.expect("a sealing has room for the payload alone"))
+    registers::read(sealing, &out[sealing.data.len()..])
 }
 
 /// The opening of a sealing's ciphertext with another tag behind it.
 fn substituted(judge: &mut Judge, sealing: &Trial, tag: u64) -> Trial {
     let mut data = sealing.by_archive().out;
     data.truncate(sealing.data.len());
-    data.extend(tag.to_be_bytes());
+    data.extend(registers::spelled(sealing, tag));
     let room = sealing.data.len() + judge.random.below(9);
     Trial {
         call: Call::Open,
@@ -142,14 +142,15 @@ fn sum_of_registers(first: &Trial, second: &Trial) -> u64 {
 /// The authenticated string, a byte for each bit.
 fn string(sealing: &Trial) -> Vec<u8> {
     let coded_length = model::coded_length(sealing.ad.len());
-    let mut string = model::bits(&[&coded_length, &sealing.ad[..], &sealing.data].concat());
+    let bytes = [&coded_length, &sealing.ad[..], &sealing.data].concat();
+    let mut string = sealing.known_edition().bits(&bytes);
     string.push(1);
     string
 }
 
 /// Flips a bit of AD and message, counted from the first bit of the AD.
 fn flip(sealing: &mut Trial, bit: usize) {
-    let (byte, mask) = (bit / 8, 0x80 >> (bit % 8));
+    let (byte, mask) = (bit / 8, sealing.known_edition().mask(bit));
     match byte.checked_sub(sealing.ad.len()) {
         None => sealing.ad[byte] ^= mask,
         Some(byte) => sealing.data[byte] ^= mask,

@@ -1,10 +1,11 @@
 //! The model against the published vectors, and the selftest's stored answers against the model.
 
 use crate::judge::{Judge, Verdict};
-use model::Machine;
+use model::{Edition, Machine};
 use tikhoplav::hex;
 use tikhoplav::sizes::{KEY_SIZE, NONCE_SIZE, TAG_SIZE};
-use tikhoplav::vectors::{counting, Published, Summand, PUBLISHED, SEALED, UNDER_BLANK_KEY};
+use tikhoplav::vectors::{counting, Published, Sealed, Summand};
+use tikhoplav::vectors::{PUBLISHED, SEALED, UNDER_BLANK_KEY};
 
 pub fn published(judge: &mut Judge) -> Verdict {
     for vector in &PUBLISHED {
@@ -24,7 +25,7 @@ pub fn published(judge: &mut Judge) -> Verdict {
 }
 
 fn keystream(vector: &Published) -> u128 {
-    let mut machine = Machine::start(&vector.key, &vector.nonce);
+    let mut machine = Machine::start(Edition::First, &vector.key, &vector.nonce);
     (0..128).fold(0, |n, _| {
         let bit = machine.preoutput();
         machine.absorb(0);
@@ -33,7 +34,7 @@ fn keystream(vector: &Published) -> u128 {
 }
 
 fn tag(vector: &Published) -> u64 {
-    let mut machine = Machine::start(&vector.key, &vector.nonce);
+    let mut machine = Machine::start(Edition::First, &vector.key, &vector.nonce);
     machine.absorb_bytes(vector.string);
     machine.accumulator()
 }
@@ -55,28 +56,40 @@ fn sum(summands: &[Summand]) -> Vec<u8> {
 
 pub fn stored(judge: &mut Judge) -> Verdict {
     let blank = UNDER_BLANK_KEY;
-    let coded_length = model::coded_length(blank.ad.len());
-    let key = [0; KEY_SIZE];
+    let payload = model::payload(
+        Edition::First,
+        &[0; KEY_SIZE],
+        &blank.nonce,
+        &model::coded_length(blank.ad.len()),
+        blank.ad,
+        blank.message,
+    );
     judge.holds(
         "the stored payload under the blank key is the model's",
-        model::payload(&key, &blank.nonce, &coded_length, blank.ad, blank.message) == blank.payload,
+        payload == blank.payload,
     )?;
     for vector in &SEALED {
-        let payload = model::seal(
-            &counting(KEY_SIZE),
-            &counting(NONCE_SIZE),
-            &counting(vector.ad_len),
-            &counting(vector.message_len),
-            vector.message_len + TAG_SIZE,
-        );
-        let ends = payload.is_ok_and(|payload| hex::encode(&payload).ends_with(vector.end));
-        judge.holds(
-            &format!(
-                "the model's payload of AD {} and message {} ends with {}",
-                vector.ad_len, vector.message_len, vector.end
-            ),
-            ends,
-        )?;
+        for (edition, end) in vector.by_edition() {
+            ends_with(judge, vector, edition, end)?;
+        }
     }
     Ok(())
+}
+
+fn ends_with(judge: &mut Judge, vector: &Sealed, edition: u32, end: &str) -> Verdict {
+    let payload = model::seal(
+        edition,
+        &counting(KEY_SIZE),
+        &counting(NONCE_SIZE),
+        &counting(vector.ad_len),
+        &counting(vector.message_len),
+        vector.message_len + TAG_SIZE,
+    );
+    judge.holds(
+        &format!(
+            "the model's payload of edition {edition}, AD {} and message {} ends with {end}",
+            vector.ad_len, vector.message_len
+        ),
+        payload.is_ok_and(|payload| hex::encode(&payload).ends_with(end)),
+    )
 }
