@@ -57,6 +57,42 @@ static void open_without_the_ad(void)
                             sizeof message);
 }
 
+static void seal_the_largest_of_edition_2(void)
+{
+    answer = tikhoplav_seal_edition(TIKHOPLAV_EDITION_2, key, sizeof key, nonce, sizeof nonce, ad, sizeof ad, message,
+                                    sizeof message, sealed, sizeof sealed);
+}
+
+static void open_it_under_edition_1(void)
+{
+    answer = tikhoplav_open_edition(TIKHOPLAV_EDITION_1, key, sizeof key, nonce, sizeof nonce, ad, sizeof ad, sealed,
+                                    sizeof sealed, message, sizeof message);
+}
+
+static void open_it_under_edition_2(void)
+{
+    answer = tikhoplav_open_edition(TIKHOPLAV_EDITION_2, key, sizeof key, nonce, sizeof nonce, ad, sizeof ad, sealed,
+                                    sizeof sealed, message, sizeof message);
+}
+
+static void seal_the_largest_of_edition_1(void)
+{
+    answer = tikhoplav_seal_edition(TIKHOPLAV_EDITION_1, key, sizeof key, nonce, sizeof nonce, ad, sizeof ad, message,
+                                    sizeof message, sealed, sizeof sealed);
+}
+
+static void seal_under_no_edition(void)
+{
+    answer = tikhoplav_seal_edition(0, key, sizeof key, nonce, sizeof nonce, ad, sizeof ad, message, sizeof message,
+                                    sealed, sizeof sealed);
+}
+
+static void open_under_no_edition(void)
+{
+    answer = tikhoplav_open_edition(3, key, sizeof key, nonce, sizeof nonce, ad, sizeof ad, sealed, sizeof sealed,
+                                    message, sizeof message);
+}
+
 static void size_of_the_largest(void)
 {
     answer = tikhoplav_ciphertext_size(sealed, sizeof sealed);
@@ -74,6 +110,13 @@ static const trial trials[] = {
     { seal_under_the_blank_key, TIKHOPLAV_REFUSED_BLANK_KEY },
     { open_the_largest, TIKHOPLAV_MESSAGE_MAX },
     { open_without_the_ad, TIKHOPLAV_REFUSED_TAG_DIFFERS },
+    { seal_the_largest_of_edition_2, TIKHOPLAV_SEALED_MAX },
+    { open_it_under_edition_1, TIKHOPLAV_REFUSED_TAG_DIFFERS },
+    { open_it_under_edition_2, TIKHOPLAV_MESSAGE_MAX },
+    { seal_the_largest_of_edition_1, TIKHOPLAV_SEALED_MAX },
+    { open_it_under_edition_1, TIKHOPLAV_MESSAGE_MAX },
+    { seal_under_no_edition, TIKHOPLAV_REFUSED_UNKNOWN_EDITION },
+    { open_under_no_edition, TIKHOPLAV_REFUSED_UNKNOWN_EDITION },
     { size_of_the_largest, TIKHOPLAV_MESSAGE_MAX },
 };
 
