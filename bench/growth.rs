@@ -32,11 +32,11 @@ fn line(name: &str, largest: usize, job: fn(usize) -> Job) {
         .collect();
     for (len, cost) in lens.iter().zip(&per_byte) {
         let part = cost / per_byte[lens.len() - 1];
-        println!("{name:<22} {len:>7} {part:>8.2}");
+        println!("{name:<26} {len:>7} {part:>8.2}");
     }
 }
 
 pub fn print() {
-    line("message, bytes", MESSAGE_MAX, |len| Job::sealing(0, len));
-    line("AD, bytes", AD_MAX, |len| Job::sealing(len, 0));
+    line("message, bytes", MESSAGE_MAX, |len| Job::sealing(1, 0, len));
+    line("AD, bytes", AD_MAX, |len| Job::sealing(1, len, 0));
 }

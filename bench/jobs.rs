@@ -2,6 +2,7 @@
 
 use crate::probes;
 use crate::rounds::{least, timed, Pair, ROUNDS};
+use model::Edition;
 use std::hint::black_box;
 use tikhoplav::archive::Call;
 use tikhoplav::sizes::{KEY_SIZE, NONCE_SIZE, TAG_SIZE};
@@ -15,6 +16,7 @@ const NONCE: [u8; NONCE_SIZE] = [0xc3; NONCE_SIZE];
 #[derive(Clone)]
 pub struct Job {
     call: Call,
+    edition: u32,
     key: Vec<u8>,
     nonce: Vec<u8>,
     ad: Vec<u8>,
@@ -23,9 +25,10 @@ pub struct Job {
 }
 
 impl Job {
-    pub fn sealing(ad_len: usize, message_len: usize) -> Job {
+    pub fn sealing(edition: u32, ad_len: usize, message_len: usize) -> Job {
         Job {
             call: Call::Seal,
+            edition,
             key: counting(KEY_SIZE),
             nonce: counting(NONCE_SIZE),
             ad: counting(ad_len),
@@ -34,8 +37,8 @@ impl Job {
         }
     }
 
-    fn opening(ad_len: usize, message_len: usize) -> Job {
-        let mut sealing = Job::sealing(ad_len, message_len);
+    fn opening(edition: u32, ad_len: usize, message_len: usize) -> Job {
+        let mut sealing = Job::sealing(edition, ad_len, message_len);
         sealing.by_archive();
         Job {
             call: Call::Open,
@@ -47,6 +50,7 @@ impl Job {
 
     pub fn by_archive(&mut self) {
         let answer = self.call.run(
+            self.edition,
             black_box(&self.key),
             &self.nonce,
             &self.ad,
@@ -63,6 +67,7 @@ impl Job {
             Call::Open => model::open,
         };
         let written = run(
+            self.edition,
             black_box(&self.key),
             &self.nonce,
             &self.ad,
@@ -86,18 +91,36 @@ impl Job {
     }
 }
 
-pub fn sealing(message_len: usize) -> Pair {
-    Job::sealing(AD_LEN, message_len).pair()
+pub fn sealing(edition: u32, message_len: usize) -> Pair {
+    Job::sealing(edition, AD_LEN, message_len).pair()
 }
 
-pub fn opening(message_len: usize) -> Pair {
-    Job::opening(AD_LEN, message_len).pair()
+pub fn opening(edition: u32, message_len: usize) -> Pair {
+    Job::opening(edition, AD_LEN, message_len).pair()
+}
+
+/// The second edition by the archive, with the first by the archive as its yardstick.
+pub fn sealing_second_to_first(message_len: usize) -> Pair {
+    second_to_first(Job::sealing, message_len)
+}
+
+pub fn opening_second_to_first(message_len: usize) -> Pair {
+    second_to_first(Job::opening, message_len)
+}
+
+fn second_to_first(job: fn(u32, usize, usize) -> Job, message_len: usize) -> Pair {
+    let mut first = job(1, AD_LEN, message_len);
+    let mut second = job(2, AD_LEN, message_len);
+    Pair {
+        ours: Box::new(move || second.by_archive()),
+        yardstick: Box::new(move || first.by_archive()),
+    }
 }
 
 /// The best rounds of sealing and of opening, by turns.
 pub fn opening_to_sealing(message_len: usize) -> f64 {
-    let mut sealing = Job::sealing(AD_LEN, message_len);
-    let mut opening = Job::opening(AD_LEN, message_len);
+    let mut sealing = Job::sealing(1, AD_LEN, message_len);
+    let mut opening = Job::opening(1, AD_LEN, message_len);
     let rounds: Vec<(f64, f64)> = (0..ROUNDS)
         .map(|_| {
             (
@@ -111,7 +134,10 @@ pub fn opening_to_sealing(message_len: usize) -> f64 {
 
 pub fn start_up() -> Pair {
     let ours = || probes::start_up(black_box(&KEY), black_box(&NONCE));
-    let yardstick = || model::Machine::start(black_box(&KEY), black_box(&NONCE)).accumulator();
+    let yardstick = || {
+        let (key, nonce) = (black_box(&KEY), black_box(&NONCE));
+        model::Machine::start(Edition::First, key, nonce).accumulator()
+    };
     same(ours, yardstick)
 }
 
@@ -125,10 +151,11 @@ pub fn strokes(clocks: usize) -> Pair {
 
 /// An engine and the yardstick's clocks, from the loaded registers.
 fn engine(run: fn(probes::Words, usize) -> u64, clocks: usize) -> Pair {
-    let words = model::Machine::loaded(&KEY, &NONCE).words();
+    let loaded = |key| model::Machine::loaded(Edition::First, key, &NONCE);
+    let words = loaded(&KEY).words();
     same(
         move || run(black_box(words), clocks),
-        move || model::Machine::loaded(black_box(&KEY), &NONCE).run(clocks),
+        move || loaded(black_box(&KEY)).run(clocks),
     )
 }
 

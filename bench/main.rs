@@ -17,7 +17,7 @@ const CLOCKS: usize = 16 * 32 * KIB;
 fn row(name: &str, size: usize, pair: &mut Pair) {
     let ratios = rounds::ratios(pair);
     println!(
-        "{name:<22} {size:>7} {:>8.2} {:>8.2}  ({:.2} .. {:.2})",
+        "{name:<26} {size:>7} {:>8.2} {:>8.2}  ({:.2} .. {:.2})",
         ratios.best, ratios.median, ratios.least, ratios.most
     );
 }
@@ -32,15 +32,43 @@ fn main() {
         jobs::AD_LEN
     );
     println!(
-        "{:<22} {:>7} {:>8} {:>8}  (min .. max)",
+        "{:<26} {:>7} {:>8} {:>8}  (min .. max)",
         "", "", "best", "median"
     );
-    for size in MESSAGE_LENS {
-        row("sealing, bytes", size, &mut jobs::sealing(size));
+    calls();
+    engines();
+
+    println!("\nThe second edition's speed as a part of the first's, both by the archive:");
+    editions();
+
+    println!(
+        "\nOpening's speed as a part of sealing's, at {} bytes:",
+        32 * KIB
+    );
+    println!(
+        "{:<34} {:>8.2}",
+        "best rounds",
+        jobs::opening_to_sealing(32 * KIB)
+    );
+    println!("\nWhat a byte more costs when sealing, times what it costs at the largest size:\n");
+    growth::print();
+}
+
+fn calls() {
+    for (edition, sealing, opening) in [
+        (1, "sealing, bytes", "opening, bytes"),
+        (2, "sealing, edition 2, bytes", "opening, edition 2, bytes"),
+    ] {
+        for size in MESSAGE_LENS {
+            row(sealing, size, &mut jobs::sealing(edition, size));
+        }
+        for size in MESSAGE_LENS {
+            row(opening, size, &mut jobs::opening(edition, size));
+        }
     }
-    for size in MESSAGE_LENS {
-        row("opening, bytes", size, &mut jobs::opening(size));
-    }
+}
+
+fn engines() {
     row("start-up, clocks", 384, &mut jobs::start_up());
     row(
         "plain engine, clocks",
@@ -48,16 +76,15 @@ fn main() {
         &mut jobs::plain_engine(CLOCKS),
     );
     row("strokes, clocks", CLOCKS, &mut jobs::strokes(CLOCKS));
+}
 
-    println!(
-        "\nOpening's speed as a part of sealing's, at {} bytes:",
-        32 * KIB
-    );
-    println!(
-        "{:<30} {:>8.2}",
-        "best rounds",
-        jobs::opening_to_sealing(32 * KIB)
-    );
-    println!("\nWhat a byte more costs when sealing, times what it costs at the largest size:\n");
-    growth::print();
+fn editions() {
+    for size in MESSAGE_LENS {
+        let mut pair = jobs::sealing_second_to_first(size);
+        row("sealing, bytes", size, &mut pair);
+    }
+    for size in MESSAGE_LENS {
+        let mut pair = jobs::opening_second_to_first(size);
+        row("opening, bytes", size, &mut pair);
+    }
 }
