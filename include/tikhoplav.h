@@ -40,8 +40,8 @@
  *   run at the same time in any number of threads, as long as nobody writes to a buffer that a running call reads, or
  *   touches one that it writes.
  *
- *   A call takes at most 1536 bytes of stack below its caller's frame. This is measured, up to the largest lengths, and
- *   not proved: 1272 bytes, with the memcpy of the GNU C library. Where memcpy stands in a shared library and is bound
+ *   A call takes at most 1792 bytes of stack below its caller's frame. This is measured, up to the largest lengths, and
+ *   not proved: 1544 bytes, with the memcpy of the GNU C library. Where memcpy stands in a shared library and is bound
  *   at its first use, the dynamic linker takes stack of its own in that one call (about 3 KiB more on Linux).
  *
  * What the caller owes

@@ -7,7 +7,7 @@
 #include <tikhoplav.h>
 
 /* What the header says. */
-enum { ENOUGH = 1536 };
+enum { ENOUGH = 1792 };
 
 enum { STACK_SIZE = 1 << 16, PATTERN = 0xa5 };
 
