@@ -18,9 +18,9 @@ use Rattle.refusals.specs.Outcome.{Outcome, settled, refused, success}
 use Rattle.refusals.specs.Demand1.{Accepts}
 use Rattle.refusals.proofs.LastRow.{settled-last}
 use Rattle.machine.specs.declared.edition.Edition.{Edition}
-use Rattle.startup.specs.Sizes.{keySize, nonceSize}
-use Rattle.startup.specs.BlankKey.{blankKey}
-use Rattle.startup.proofs.BlankKey.{unequal-not-blank}
+use Rattle.key.specs.Sizes.{keySize, nonceSize}
+use Rattle.key.specs.BlankKey.{blankKey}
+use Rattle.key.proofs.BlankKey.{unequal-not-blank}
 use Rattle.payload.specs.Sizes.{tagSize}
 use Rattle.payload.specs.Payload.{ciphertext, deciphered, tag, payload, ciphertextPart, tagPart}
 use Rattle.payload.proofs.Payload.{ciphertextPart-joined, tagPart-joined, parts, length-ciphertextPart, ciphertextPart-bytes, length-deciphered, deciphered-bytes, length-tag, length-payload, deciphered-ciphertext, ciphertext-deciphered}

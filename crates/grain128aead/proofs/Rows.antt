@@ -15,9 +15,9 @@ use Rattle.refusals.specs.declared.Refusal.the-variants.{KeySize, NonceSize, Ad
 use Rattle.refusals.specs.Refusals.{among}
 use Rattle.refusals.proofs.Rows.{quiet-none, quiet-row}
 use Rattle.machine.specs.declared.edition.Edition.{Edition}
-use Rattle.startup.specs.Sizes.{keySize, nonceSize}
-use Rattle.startup.specs.BlankKey.{blankKey}
-use Rattle.startup.proofs.BlankKey.{not-blank, unequal-not-blank}
+use Rattle.key.specs.Sizes.{keySize, nonceSize}
+use Rattle.key.specs.BlankKey.{blankKey}
+use Rattle.key.proofs.BlankKey.{not-blank, unequal-not-blank}
 use Rattle.payload.specs.Payload.{tag, tagPart}
 use Rattle.grain128aead.specs.Sizes.{adLimit}
 use Rattle.grain128aead.specs.Calls.{table, rows, recovered, tagDiffers}

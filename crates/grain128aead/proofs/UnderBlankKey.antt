@@ -13,8 +13,8 @@ use Rattle.refusals.specs.declared.Check.the-variants.{Failed}
 use Rattle.refusals.specs.Refusals.{among, after, check}
 use Rattle.refusals.specs.Outcome.{settled}
 use Rattle.machine.specs.declared.edition.Edition.{Edition}
-use Rattle.startup.specs.Sizes.{nonceSize}
-use Rattle.startup.specs.BlankKey.{blankKey, isBlank}
+use Rattle.key.specs.Sizes.{nonceSize}
+use Rattle.key.specs.BlankKey.{blankKey, isBlank}
 use Rattle.payload.specs.Payload.{payload}
 use Rattle.grain128aead.specs.Order.{beforeTag}
 use Rattle.grain128aead.specs.Calls.{table, recovered, tagDiffers}

@@ -11,8 +11,8 @@ use Rattle.refusals.specs.declared.Refusal.the-variants.{KeySize, NonceSize, Ad
 use Rattle.refusals.specs.Refusals.{Row, _when_, among}
 use Rattle.refusals.specs.Outcome.{Outcome, judged}
 use Rattle.machine.specs.declared.edition.Edition.{Edition}
-use Rattle.startup.specs.Sizes.{keySize, nonceSize}
-use Rattle.startup.specs.BlankKey.{isBlank}
+use Rattle.key.specs.Sizes.{keySize, nonceSize}
+use Rattle.key.specs.BlankKey.{isBlank}
 use Rattle.payload.specs.Sizes.{tagSize}
 use Rattle.payload.specs.Payload.{payload, deciphered, tag, ciphertextPart, tagPart}
 use Rattle.grain128aead.specs.Sizes.{adLimit, messageLimit}

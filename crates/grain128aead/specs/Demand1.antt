@@ -13,8 +13,8 @@ use Rattle.refusals.specs.Outcome.{Outcome, refused, judged}
 use Rattle.refusals.specs.Demand1.{Accepts}
 use Rattle.refusals.specs.Demand1 as anyCall
 use Rattle.machine.specs.declared.edition.Edition.{Edition}
-use Rattle.startup.specs.Sizes.{nonceSize}
-use Rattle.startup.specs.BlankKey.{blankKey}
+use Rattle.key.specs.Sizes.{nonceSize}
+use Rattle.key.specs.BlankKey.{blankKey}
 use Rattle.payload.specs.Sizes.{tagSize}
 use Rattle.grain128aead.specs.Order.{order}
 use Rattle.grain128aead.specs.Calls.{table, rows, sealed, opened}

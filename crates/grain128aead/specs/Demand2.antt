@@ -8,8 +8,8 @@ use Rattle.bits.specs.Bytes.{Bytes}
 use Rattle.refusals.specs.Outcome.{Outcome, success}
 use Rattle.refusals.specs.Demand1.{Accepts}
 use Rattle.machine.specs.declared.edition.Edition.{Edition}
-use Rattle.startup.specs.Sizes.{keySize, nonceSize}
-use Rattle.startup.specs.BlankKey.{blankKey}
+use Rattle.key.specs.Sizes.{keySize, nonceSize}
+use Rattle.key.specs.BlankKey.{blankKey}
 use Rattle.payload.specs.Sizes.{tagSize}
 use Rattle.payload.specs.Payload.{payload}
 use Rattle.grain128aead.specs.Sizes.{adLimit, messageLimit}

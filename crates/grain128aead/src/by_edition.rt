@@ -3,7 +3,7 @@ ghost use mathlib.Core.Path.{_≡_};
 ghost use lib.ListN.{length};
 ghost use Rattle.refusals.specs.Outcome.{outcome};
 ghost use Rattle.machine.specs.Engine.{stateOf};
-ghost use Rattle.startup.specs.Sizes.{keySize, nonceSize};
+ghost use Rattle.key.specs.Sizes.{keySize, nonceSize};
 ghost use Rattle.payload.specs.Payload.{begun, payload};
 ghost use Rattle.grain128aead.specs.Order.{order};
 ghost use Rattle.grain128aead.specs.Calls as calls;

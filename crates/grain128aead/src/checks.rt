@@ -19,7 +19,7 @@ pub fn judge(
 ) -> Check
     ensures { λ r. ⌜ r ≡ refusals.check beforeTag (rows (now (key .entry)) (now (nonce .entry)) (now (ad .entry)) «too_long» «too_short» «no_room» false) ⌝ }
 {
-    let blank = startup::key::is_blank(key);
+    let blank = key::is_blank(key);
     let c = refusals::after(Check::Passed, Refusal::KeySize, key.len() != 16);
     let c = refusals::after(c, Refusal::NonceSize, nonce.len() != 12);
     let c = refusals::after(c, Refusal::BlankKey, blank);

@@ -14,7 +14,7 @@ use Rattle.authenticator.proofs.Linear.{registersAt-between}
 use Rattle.machine.specs.declared.edition.Edition.{Edition}
 use Rattle.machine.specs.Laws as machine
 use Rattle.machine.proofs.Accumulator.{length-registerAt}
-use Rattle.startup.specs.Sizes.{keySize, nonceSize}
+use Rattle.key.specs.Sizes.{keySize, nonceSize}
 use Rattle.startup.specs.Editions.{bitsIn, flipIn, initialised}
 use Rattle.startup.proofs.Order.{length-bitsIn, as-many-bitsIn, length-flipIn, sum-flipIn}
 use Rattle.startup.proofs.Sizes.{initialised-sized}

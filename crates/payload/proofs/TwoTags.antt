@@ -14,7 +14,7 @@ use Rattle.bits.proofs.Sum.{sum-self, sum-cancel}
 use Rattle.machine.specs.declared.edition.Edition.{Edition}
 use Rattle.machine.specs.Machine.{run}
 use Rattle.machine.proofs.Accumulator.{accumulator-sum}
-use Rattle.startup.specs.Sizes.{keySize, nonceSize}
+use Rattle.key.specs.Sizes.{keySize, nonceSize}
 use Rattle.startup.specs.Editions.{bitsIn, initialised}
 use Rattle.startup.proofs.Order.{length-bitsIn, bitsIn-bytesIn, bytesIn-are-bytes, bitsIn-injective}
 use Rattle.startup.proofs.Sizes.{initialised-sized}

@@ -16,7 +16,7 @@ use Rattle.machine.specs.declared.edition.Edition.{Edition}
 use Rattle.machine.specs.Machine.{keystreamBit, run}
 use Rattle.machine.specs.Laws.{Sized}
 use Rattle.machine.specs.Laws as machine
-use Rattle.startup.specs.Sizes.{keySize, nonceSize}
+use Rattle.key.specs.Sizes.{keySize, nonceSize}
 use Rattle.startup.specs.StartUp.{loaded}
 use Rattle.startup.specs.Editions.{bitsIn, runningFrom, initialised}
 use Rattle.startup.specs.Laws.{startUpClocks}

@@ -9,7 +9,7 @@ use lib.ListN.{length}
 use Rattle.bits.specs.Strings.{_⊞_, zeros}
 use Rattle.machine.specs.declared.edition.Edition.{Edition}
 use Rattle.machine.specs.Laws as machine
-use Rattle.startup.specs.Sizes.{keySize, nonceSize}
+use Rattle.key.specs.Sizes.{keySize, nonceSize}
 use Rattle.startup.specs.Editions.{bitsIn, initialised}
 use Rattle.payload.specs.AuthenticatedString.{authenticated}
 use Rattle.payload.specs.Payload.{tag}

@@ -1,4 +1,3 @@
-pub mod BlankKey
 pub mod Order
 pub mod Ordered
 pub mod Naming

@@ -12,7 +12,7 @@ use Rattle.preoutput.specs.declared.Registers.{Registers}
 use Rattle.preoutput.specs.Words.{generatorOf}
 use Rattle.preoutput.specs.Generator.{Sized}
 use Rattle.machine.specs.declared.edition.Edition.{Edition}
-use Rattle.startup.specs.Sizes.{keySize, nonceSize}
+use Rattle.key.specs.Sizes.{keySize, nonceSize}
 use Rattle.startup.specs.StartUp.{loaded}
 use Rattle.startup.specs.Editions.{bitsIn}
 use Rattle.startup.specs.Laws as laws

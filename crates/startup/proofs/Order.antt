@@ -21,6 +21,44 @@ use Rattle.machine.specs.declared.edition.Edition.the-variants.{First, Second}
 use Rattle.startup.specs.Editions.{ordered, bitsIn, bytesIn, flipIn}
 use Rattle.startup.specs.Laws.{weight, Order}
 
+-- ---- place by place
+
+-- Bit j of byte i of a string, from the top down.
+bits-place : (s : List ℕ) (i j : ℕ) → i < length s → j < 8 → getD (bits s) (8 * i + j) false ≡ getD (word 8 (getD s i 0)) j false
+unfolding bits
+bits-place [] i j h k = absurd (not-suc-le-zero h)
+bits-place (b ∷ s) zero j h k =
+    ap (λ (n : ℕ). getD (word 8 b ++ bits s) n false) (omega arith) ∙ List·getD-append (word 8 b) (bits s) false j (omega (arith, length-word 8 b))
+bits-place (b ∷ s) (suc i) j h k =
+    let behind : 8 * suc i + j ≡ length (word 8 b) + (8 * i + j) = omega (arith, length-word 8 b) in
+    ap (λ (n : ℕ). getD (word 8 b ++ bits s) n false) behind ∙ getD-append-add (word 8 b) (bits s) (8 * i + j) false
+    ∙ bits-place s i j (le-of-suc-le-suc h) k
+
+turned-place : (s : List ℕ) (i : ℕ) → i < length s → getD (map turned s) i 0 ≡ turned (getD s i 0)
+turned-place [] i h = absurd (not-suc-le-zero h)
+turned-place (b ∷ s) zero h = refl
+turned-place (b ∷ s) (suc i) h = turned-place s i (le-of-suc-le-suc h)
+
+reversed-place : (b j : ℕ) → j < 8 → getD (reverse (word 8 b)) j false ≡ bit j b
+unfolding word
+reversed-place b zero h = refl
+reversed-place b (suc zero) h = refl
+reversed-place b (suc (suc zero)) h = refl
+reversed-place b (suc (suc (suc zero))) h = refl
+reversed-place b (suc (suc (suc (suc zero)))) h = refl
+reversed-place b (suc (suc (suc (suc (suc zero))))) h = refl
+reversed-place b (suc (suc (suc (suc (suc (suc zero)))))) h = refl
+reversed-place b (suc (suc (suc (suc (suc (suc (suc zero))))))) h = refl
+reversed-place b (suc (suc (suc (suc (suc (suc (suc (suc j)))))))) h = absurd (omega arith)
+
+places : (e : Edition) (s : List ℕ) (i j : ℕ) → i < length s → j < 8 → getD (bitsIn e s) (8 * i + j) false ≡ bit (weight e j) (getD s i 0)
+unfolding bitsIn ordered
+places First s i j h k = bits-place s i j h k ∙ getD-word 8 (getD s i 0) j k ∙ ap (λ (n : ℕ). bit n (getD s i 0)) (omega arith)
+places Second s i j h k =
+    bits-place (map turned s) i j (rw length-map h) k
+    ∙ ap (λ (b : ℕ). getD (word 8 b) j false) (turned-place s i h)
+    ∙ ap (λ (r : List Bool). getD r j false) (word-turned (getD s i 0)) ∙ reversed-place (getD s i 0) j k
+
 -- ---- the involution
 
 pub length-ordered : (e : Edition) (s : List ℕ) → length (ordered e s) ≡ length s
@@ -151,44 +189,6 @@ module _ (e : Edition) where
   flipIn-sum s t b h =
       ap (ordered e) (flip-sum (ordered e s) (ordered e t) (ordered-bytes e t b) (length-ordered e s ∙ h ∙ sym (length-ordered e t)))
       ∙ ordered-twice e t b
-
--- ---- place by place
-
--- Bit j of byte i of a string, from the top down.
-bits-place : (s : List ℕ) (i j : ℕ) → i < length s → j < 8 → getD (bits s) (8 * i + j) false ≡ getD (word 8 (getD s i 0)) j false
-unfolding bits
-bits-place [] i j h k = absurd (not-suc-le-zero h)
-bits-place (b ∷ s) zero j h k =
-    ap (λ (n : ℕ). getD (word 8 b ++ bits s) n false) (omega arith) ∙ List·getD-append (word 8 b) (bits s) false j (omega (arith, length-word 8 b))
-bits-place (b ∷ s) (suc i) j h k =
-    let behind : 8 * suc i + j ≡ length (word 8 b) + (8 * i + j) = omega (arith, length-word 8 b) in
-    ap (λ (n : ℕ). getD (word 8 b ++ bits s) n false) behind ∙ getD-append-add (word 8 b) (bits s) (8 * i + j) false
-    ∙ bits-place s i j (le-of-suc-le-suc h) k
-
-turned-place : (s : List ℕ) (i : ℕ) → i < length s → getD (map turned s) i 0 ≡ turned (getD s i 0)
-turned-place [] i h = absurd (not-suc-le-zero h)
-turned-place (b ∷ s) zero h = refl
-turned-place (b ∷ s) (suc i) h = turned-place s i (le-of-suc-le-suc h)
-
-reversed-place : (b j : ℕ) → j < 8 → getD (reverse (word 8 b)) j false ≡ bit j b
-unfolding word
-reversed-place b zero h = refl
-reversed-place b (suc zero) h = refl
-reversed-place b (suc (suc zero)) h = refl
-reversed-place b (suc (suc (suc zero))) h = refl
-reversed-place b (suc (suc (suc (suc zero)))) h = refl
-reversed-place b (suc (suc (suc (suc (suc zero))))) h = refl
-reversed-place b (suc (suc (suc (suc (suc (suc zero)))))) h = refl
-reversed-place b (suc (suc (suc (suc (suc (suc (suc zero))))))) h = refl
-reversed-place b (suc (suc (suc (suc (suc (suc (suc (suc j)))))))) h = absurd (omega arith)
-
-places : (e : Edition) (s : List ℕ) (i j : ℕ) → i < length s → j < 8 → getD (bitsIn e s) (8 * i + j) false ≡ bit (weight e j) (getD s i 0)
-unfolding bitsIn ordered
-places First s i j h k = bits-place s i j h k ∙ getD-word 8 (getD s i 0) j k ∙ ap (λ (n : ℕ). bit n (getD s i 0)) (omega arith)
-places Second s i j h k =
-    bits-place (map turned s) i j (rw length-map h) k
-    ∙ ap (λ (b : ℕ). getD (word 8 b) j false) (turned-place s i h)
-    ∙ ap (λ (r : List Bool). getD r j false) (word-turned (getD s i 0)) ∙ reversed-place (getD s i 0) j k
 
 pub order : (e : Edition) → Order e
 order e = record { places = places e; there = bytesIn-bitsIn e; back = bitsIn-bytesIn e }

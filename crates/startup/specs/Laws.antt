@@ -13,7 +13,7 @@ use Rattle.preoutput.specs.Generator.{Generator, preoutput, clock, fedBack, key
 use Rattle.machine.specs.declared.edition.Edition.{Edition}
 use Rattle.machine.specs.declared.edition.Edition.the-variants.{First, Second}
 use Rattle.machine.specs.Laws.{Sized}
-use Rattle.startup.specs.Sizes.{keySize, nonceSize}
+use Rattle.key.specs.Sizes.{keySize, nonceSize}
 use Rattle.startup.specs.StartUp.{loaded}
 use Rattle.startup.specs.Editions.{bitsIn, bytesIn, filling, runningFrom, initialised}
 

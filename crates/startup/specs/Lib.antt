@@ -1,5 +1,3 @@
-pub mod Sizes
-pub mod BlankKey
 pub mod StartUp
 pub mod Editions
 pub mod Naming

@@ -2,7 +2,6 @@
 pub mod editions;
 mod feeding;
 mod filling;
-pub mod key;
 pub mod loading;
 
 ghost use mathlib.Core.Path.{_≡_};

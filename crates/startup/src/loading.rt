@@ -6,7 +6,7 @@ ghost use mathlib.Core.List.{_∷_, [], _++_};
 ghost use lib.ListN.{length, take, drop, replicate};
 ghost use Rattle.bits.specs.Bytes.{word};
 ghost use Rattle.preoutput.specs.Words.{generatorOf};
-ghost use Rattle.startup.specs.Sizes.{nonceSize};
+ghost use Rattle.key.specs.Sizes.{nonceSize};
 ghost use Rattle.startup.specs.StartUp.{loaded};
 ghost use Rattle.startup.specs.Editions.{bitsIn};
 use crate::editions;

@@ -3,7 +3,7 @@
 use mathlib.Core.Path.{_≡_}
 use borrow.Author.Needs.{needs}
 use lib.ListN.{length}
-use Rattle.startup.specs.Sizes.{keySize, nonceSize}
+use Rattle.key.specs.Sizes.{keySize, nonceSize}
 use Rattle.startup.proofs.Loaded.{loaded-words}
 use Rattle.startup.proofs.loading.load.Statement.{statement}
 use Rattle.startup.proofs.loading.load.Tie as tie

@@ -1,12 +1,12 @@
--- `startup::key::is_blank` meets its contract: after i bytes, these joined are zero exactly when each of them is.
+-- `key::is_blank` meets its contract: after i bytes, these joined are zero exactly when each of them is.
 -- Assumes nothing.
 use mathlib.Core.Path.{_≡_, refl, sym}
 use mathlib.Core.Logic.{_↔_}
 use Prim.Native.Nat.{_-_, _≤_}
 use native.Mathlib.Omega.{arith}
-use Rattle.startup.proofs.BlankKey.{ZeroTo, zero-turn, zero-blank, wrong-size}
-use Rattle.startup.proofs.key.is_blank.Statement.{statement}
-use Rattle.startup.proofs.key.is_blank.Tie as tie
+use Rattle.key.proofs.BlankKey.{ZeroTo, zero-turn, zero-blank, wrong-size}
+use Rattle.key.proofs.is_blank.Statement.{statement}
+use Rattle.key.proofs.is_blank.Tie as tie
 
 abbrev Inv-loop : tie.InvT-loop
 Inv-loop key joined₀ i₀ joined i = (i ≤ 16) × ((joined ≡ 0) ↔ ZeroTo key i)

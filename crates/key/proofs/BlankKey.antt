@@ -14,8 +14,8 @@ use lib.Bits.{bitOr, bitAnd, or-add-and, and-le-l, and-le-r}
 use lib.ListN.{length, getD, length-replicate, getD-replicate}
 use lib.Seq.{ext-getD}
 use Rattle.bits.proofs.Packing.{same-equal, equal-same}
-use Rattle.startup.specs.Sizes.{keySize}
-use Rattle.startup.specs.BlankKey.{blankKey, isBlank, Blank}
+use Rattle.key.specs.Sizes.{keySize}
+use Rattle.key.specs.BlankKey.{blankKey, isBlank, Blank}
 
 module _ (key : List ℕ) where
   -- Its bytes before place i are zero.

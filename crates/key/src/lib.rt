@@ -1,6 +1,6 @@
 // What is asked of a key beside its size.
 ghost use mathlib.Core.Path.{_≡_};
-ghost use Rattle.startup.specs.BlankKey.{isBlank};
+ghost use Rattle.key.specs.BlankKey.{isBlank};
 
 // Whether the key is 16 zero bytes. Of a key of that size every byte is read, whatever it holds.
 pub fn is_blank(key: &[u8]) -> bool

@@ -6,7 +6,7 @@ use mathlib.Core.List.{List}
 use Prim.Native.Nat.{ℕ, _<_}
 use lib.ListN.{length, getD, replicate}
 use Rattle.bits.specs.Bytes.{same}
-use Rattle.startup.specs.Sizes.{keySize}
+use Rattle.key.specs.Sizes.{keySize}
 
 unfoldable pub blankKey : List ℕ
 blankKey = replicate keySize 0
