@@ -44,7 +44,7 @@ $(OUT):
 	mkdir -p $@
 
 # The archive depends on the files that are proved and on their folders, so that a removed file counts too.
-VERIFIED := bits key refusals preoutput strokes authenticator machine startup strings payload grain128aead named_edition capi
+VERIFIED := bits key refusals preoutput strokes authenticator machine startup strings payload checks grain128aead named_edition capi
 PROVED := $(shell find $(foreach crate,$(VERIFIED),$(wildcard $(addprefix crates/$(crate)/,src specs proofs))))
 
 build/libtikhoplav.a: crates.txt $(PROVED) | $(OUT)

@@ -25,21 +25,23 @@ use Rattle.payload.specs.Sizes.{tagSize}
 use Rattle.payload.specs.Payload.{ciphertext, deciphered, tag, payload, ciphertextPart, tagPart}
 use Rattle.payload.proofs.Payload.{ciphertextPart-joined, tagPart-joined, parts, length-ciphertextPart, ciphertextPart-bytes, length-deciphered, deciphered-bytes, length-tag, length-payload, deciphered-ciphertext, ciphertext-deciphered}
 use Rattle.grain128aead.specs.Sizes.{adLimit, messageLimit}
-use Rattle.grain128aead.specs.Order.{beforeTag, order}
-use Rattle.grain128aead.specs.Calls.{table, sealingTable, sealingRow, sealed, recovered, openingTable, openingRow, opened, tagDiffers}
-use Rattle.grain128aead.specs.Demand1.{Demand1}
+use Rattle.checks.specs.Order.{beforeTag, order}
+use Rattle.checks.specs.Rows.{table}
+use Rattle.grain128aead.specs.Calls.{sealingTable, sealingRow, sealed, recovered, openingTable, openingRow, opened, tagDiffers}
+use Rattle.checks.specs.Demand1.{Demand1}
 use Rattle.grain128aead.specs.Demand2.{Legal, Makes, Sealing, Demand2}
-use Rattle.grain128aead.proofs.Demand1.{tabled, demand1}
+use Rattle.checks.proofs.Demand1.{tabled, demand1}
 use Rattle.grain128aead.proofs.Settled.{judgement, opened-settled}
-use Rattle.grain128aead.proofs.Rows.{rows-clear, clear-rows, Authentic, tag-authentic, authentic-tag}
+use Rattle.checks.proofs.Rows.{rows-clear, clear-rows}
+use Rattle.grain128aead.proofs.Authentic.{Authentic, tag-authentic, authentic-tag}
 
 module _ (ed : Edition) (key nonce ad message out : List ℕ) where
   pub demand1-sealing : Demand1 order (sealingRow key nonce ad message out) (payload ed key nonce ad message) out (sealed ed key nonce ad message out)
   unfolding sealed
-  demand1-sealing = demand1 order (sealingTable key nonce ad message out) (tabled key nonce ad _ _ _ _) (payload ed key nonce ad message) out
+  demand1-sealing = demand1 order (sealingTable key nonce ad message out) (tabled adLimit key nonce ad _ _ _ _) (payload ed key nonce ad message) out
 
   accepted : Legal key nonce ad message → length message + tagSize ≤ length out → Accepts (sealed ed key nonce ad message out)
-  accepted legal room = demand1-sealing .accepts .1 (clear-rows key nonce ad _ _ _ _ record {
+  accepted legal room = demand1-sealing .accepts .1 (clear-rows adLimit key nonce ad _ _ _ _ record {
     keySized = legal .keySized;
     nonceSized = legal .nonceSized;
     keyNotBlank = legal .keyNotBlank;
@@ -52,7 +54,7 @@ module _ (ed : Edition) (key nonce ad message out : List ℕ) where
 
   legal : Accepts (sealed ed key nonce ad message out) → Legal key nonce ad message × (length message + tagSize ≤ length out)
   legal a =
-      let c = rows-clear key nonce ad _ _ _ _ (demand1-sealing .accepts .0 a) in (
+      let c = rows-clear adLimit key nonce ad _ _ _ _ (demand1-sealing .accepts .0 a) in (
         record { keySized = c .keySized; nonceSized = c .nonceSized; keyNotBlank = c .keyNotBlank; adFits = c .adFits; messageFits = ltb-false messageLimit (length message) (c .fits) },
         ltb-false (length out) (length message + tagSize) (c .room),
       )
@@ -63,7 +65,7 @@ module _ (ed : Edition) (key nonce ad message out : List ℕ) where
 module _ (ed : Edition) (key nonce ad input out : List ℕ) where
   pub demand1-opening : Demand1 order (openingRow ed key nonce ad input out) (recovered ed key nonce ad input) out (opened ed key nonce ad input out)
   unfolding opened
-  demand1-opening = demand1 order (openingTable ed key nonce ad input out) (tabled key nonce ad _ _ _ _) (recovered ed key nonce ad input) out
+  demand1-opening = demand1 order (openingTable ed key nonce ad input out) (tabled adLimit key nonce ad _ _ _ _) (recovered ed key nonce ad input) out
 
   -- The key is not blank, and the sizes are in order.
   pub record InOrder : Type 0 where
@@ -108,7 +110,7 @@ module _ (ed : Edition) (key nonce ad input out : List ℕ) where
 
   pub opening-in-order : Accepts (opened ed key nonce ad input out) → InOrder × Authentic ed key nonce ad input
   opening-in-order a =
-      let c = rows-clear key nonce ad _ _ _ _ (demand1-opening .accepts .0 a) in (
+      let c = rows-clear adLimit key nonce ad _ _ _ _ (demand1-opening .accepts .0 a) in (
         record {
           keySized = c .keySized;
           nonceSized = c .nonceSized;

@@ -28,7 +28,7 @@ use Rattle.grain128aead.specs.Demand2.{Legal}
 use Rattle.grain128aead.specs.Demand3.{Distinct, Flipped, Agrees, Demand3}
 use Rattle.grain128aead.specs.Substitution.{genuine, EqualLengths, EveryFlip}
 use Rattle.grain128aead.proofs.AdLengths.{two-bytes}
-use Rattle.grain128aead.proofs.Rows.{Authentic}
+use Rattle.grain128aead.proofs.Authentic.{Authentic}
 use Rattle.grain128aead.proofs.Demand2.{InOrder, legal-in-order}
 use Rattle.grain128aead.proofs.Substitution.{verdict, tag-part, authentic-sum}
 

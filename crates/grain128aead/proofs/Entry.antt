@@ -37,19 +37,21 @@ use Rattle.payload.specs.AuthenticatedString.{header, authenticated}
 use Rattle.payload.specs.Payload.{begun, ciphertext, deciphered, tag, payload, ciphertextPart, tagPart}
 use Rattle.payload.proofs.Payload.{parts, length-ciphertextPart, length-ciphertext, length-payload, length-deciphered, deciphered-bits, tagPart-is}
 use Rattle.payload.proofs.Begun.{begun-edition, after-edition}
-use Rattle.grain128aead.specs.Sizes.{messageLimit}
-use Rattle.grain128aead.specs.Order.{order}
-use Rattle.grain128aead.specs.Calls.{table, rows, sealed, recovered, tagDiffers, opened}
-use Rattle.grain128aead.proofs.Demand1.{tabled, none-at-all}
-use Rattle.grain128aead.proofs.Rows.{NoneApplies, rows-clear, tag-authentic, authentic-tag}
+use Rattle.grain128aead.specs.Sizes.{adLimit, messageLimit}
+use Rattle.checks.specs.Order.{order}
+use Rattle.checks.specs.Rows.{table, rows}
+use Rattle.grain128aead.specs.Calls.{sealed, recovered, tagDiffers, opened}
+use Rattle.checks.proofs.Demand1.{tabled, none-at-all}
+use Rattle.checks.proofs.Rows.{NoneApplies, rows-clear}
+use Rattle.grain128aead.proofs.Authentic.{tag-authentic, authentic-tag}
 use Rattle.grain128aead.proofs.Settled.{judgement, check-rows, sealed-settled, opened-settled}
 
 -- Where the rows before the tag's have passed, none of them applies.
-pub passed-clear : (key nonce ad : List ℕ) (tooLong tooShort noRoom : Bool) → judgement key nonce ad tooLong tooShort noRoom ≡ Passed → NoneApplies key nonce ad tooLong tooShort noRoom false
+pub passed-clear : (key nonce ad : List ℕ) (tooLong tooShort noRoom : Bool) → judgement key nonce ad tooLong tooShort noRoom ≡ Passed → NoneApplies adLimit key nonce ad tooLong tooShort noRoom false
 passed-clear key nonce ad tooLong tooShort noRoom e =
-    rows-clear key nonce ad tooLong tooShort noRoom false
-    (none-at-all order (table key nonce ad tooLong tooShort noRoom false) (tabled key nonce ad tooLong tooShort noRoom false)
-    (decides (rows key nonce ad tooLong tooShort noRoom false) order .passes .0
+    rows-clear adLimit key nonce ad tooLong tooShort noRoom false
+    (none-at-all order (table adLimit key nonce ad tooLong tooShort noRoom false) (tabled adLimit key nonce ad tooLong tooShort noRoom false)
+    (decides (rows adLimit key nonce ad tooLong tooShort noRoom false) order .passes .0
     (check-rows key nonce ad tooLong tooShort noRoom false ∙ ap (λ (c : Check). after c TagDiffers false) e)))
 
 -- The tag, from the machine where the message begins.
@@ -121,7 +123,7 @@ module _ {key nonce ad message lent : List ℕ} {c : Check} (checks : SealChecke
   seal-failed ed e = sym (sealed-settled ed key nonce ad message lent ∙ ap (λ (d : Check). settled d (payload ed key nonce ad message) lent) (sym (checks .checked) ∙ e))
 
   module _ (e : c ≡ Passed) where
-    pub seal-clear : NoneApplies key nonce ad (ltb messageLimit (length message)) false (ltb (length lent) (length message + tagSize)) false
+    pub seal-clear : NoneApplies adLimit key nonce ad (ltb messageLimit (length message)) false (ltb (length lent) (length message + tagSize)) false
     seal-clear = passed-clear key nonce ad _ _ _ (sym (checks .checked) ∙ e)
 
     pub seal-room : length message + tagSize ≤ length lent
@@ -168,7 +170,7 @@ module _ {key nonce ad input lent : List ℕ} {c : Check} (checks : OpenChecked 
       sym (opened-settled ed key nonce ad input lent ∙ ap (λ (d : Check). settled (after d TagDiffers (tagDiffers ed key nonce ad input)) (recovered ed key nonce ad input) lent) (sym (checks .checked) ∙ e))
 
   module _ (e : c ≡ Passed) where
-    pub open-clear : NoneApplies key nonce ad (ltb (messageLimit + tagSize) (length input)) (ltb (length input) tagSize) (ltb (length lent) (length input - tagSize)) false
+    pub open-clear : NoneApplies adLimit key nonce ad (ltb (messageLimit + tagSize) (length input)) (ltb (length input) tagSize) (ltb (length lent) (length input - tagSize)) false
     open-clear = passed-clear key nonce ad _ _ _ (sym (checks .checked) ∙ e)
 
     pub open-reaches : tagSize ≤ length input

@@ -1,8 +1,7 @@
 pub mod AdLengths
 pub mod LargestJob
-pub mod Demand1
 pub mod Settled
-pub mod Rows
+pub mod Authentic
 pub mod Demand2
 pub mod Substitution
 pub mod Demand3

@@ -14,17 +14,18 @@ use Rattle.refusals.proofs.LastRow.{after-false, check-last}
 use Rattle.machine.specs.declared.edition.Edition.{Edition}
 use Rattle.payload.specs.Sizes.{tagSize}
 use Rattle.payload.specs.Payload.{payload}
-use Rattle.grain128aead.specs.Sizes.{messageLimit}
-use Rattle.grain128aead.specs.Order.{beforeTag, order}
-use Rattle.grain128aead.specs.Calls.{table, rows, sealed, recovered, tagDiffers, opened}
+use Rattle.grain128aead.specs.Sizes.{adLimit, messageLimit}
+use Rattle.checks.specs.Order.{beforeTag, order}
+use Rattle.checks.specs.Rows.{table, rows}
+use Rattle.grain128aead.specs.Calls.{sealed, recovered, tagDiffers, opened}
 
 -- What the rows before the tag's come to, whatever the tag.
 abbrev pub judgement : (key nonce ad : List ℕ) → (tooLong tooShort noRoom : Bool) → Check
-judgement key nonce ad tooLong tooShort noRoom = check beforeTag (rows key nonce ad tooLong tooShort noRoom false)
+judgement key nonce ad tooLong tooShort noRoom = check beforeTag (rows adLimit key nonce ad tooLong tooShort noRoom false)
 
-pub check-rows : (key nonce ad : List ℕ) (tooLong tooShort noRoom differs : Bool) → check order (rows key nonce ad tooLong tooShort noRoom differs) ≡ after (judgement key nonce ad tooLong tooShort noRoom) TagDiffers differs
+pub check-rows : (key nonce ad : List ℕ) (tooLong tooShort noRoom differs : Bool) → check order (rows adLimit key nonce ad tooLong tooShort noRoom differs) ≡ after (judgement key nonce ad tooLong tooShort noRoom) TagDiffers differs
 unfolding order table among check beforeTag
-check-rows key nonce ad tooLong tooShort noRoom differs = check-last beforeTag TagDiffers (rows key nonce ad tooLong tooShort noRoom differs)
+check-rows key nonce ad tooLong tooShort noRoom differs = check-last beforeTag TagDiffers (rows adLimit key nonce ad tooLong tooShort noRoom differs)
 
 pub sealed-settled : (ed : Edition) (key nonce ad message out : List ℕ)
     → sealed ed key nonce ad message out ≡ settled (judgement key nonce ad (ltb messageLimit (length message)) false (ltb (length out) (length message + tagSize))) (payload ed key nonce ad message) out

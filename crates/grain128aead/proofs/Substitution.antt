@@ -20,7 +20,7 @@ use Rattle.grain128aead.specs.Calls.{recovered, tagDiffers, opened}
 use Rattle.grain128aead.specs.Demand2.{Legal}
 use Rattle.grain128aead.specs.Demand3.{Verdict}
 use Rattle.grain128aead.specs.Substitution.{Genuine, differing, Substitution}
-use Rattle.grain128aead.proofs.Rows.{Authentic, tag-authentic, authentic-tag}
+use Rattle.grain128aead.proofs.Authentic.{Authentic, tag-authentic, authentic-tag}
 use Rattle.grain128aead.proofs.Demand2.{InOrder, legal-in-order, opening-tag, opening-in-order}
 
 -- With all else in order, opening goes by whatever holds exactly when the tag is the recomputed one.

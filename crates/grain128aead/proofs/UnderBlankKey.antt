@@ -16,8 +16,9 @@ use Rattle.machine.specs.declared.edition.Edition.{Edition}
 use Rattle.key.specs.Sizes.{nonceSize}
 use Rattle.key.specs.BlankKey.{blankKey, isBlank}
 use Rattle.payload.specs.Payload.{payload}
-use Rattle.grain128aead.specs.Order.{beforeTag}
-use Rattle.grain128aead.specs.Calls.{table, recovered, tagDiffers}
+use Rattle.checks.specs.Order.{beforeTag}
+use Rattle.checks.specs.Rows.{table}
+use Rattle.grain128aead.specs.Calls.{recovered, tagDiffers}
 use Rattle.grain128aead.specs.Demand1.{UnderBlankKey}
 use Rattle.grain128aead.proofs.Settled.{judgement, sealed-settled, opened-settled}
 

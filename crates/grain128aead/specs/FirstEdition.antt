@@ -6,9 +6,9 @@ use Rattle.refusals.specs.declared.Refusal.{Refusal}
 use Rattle.refusals.specs.Outcome.{Outcome}
 use Rattle.machine.specs.declared.edition.Edition.the-variants.{First}
 use Rattle.payload.specs.Payload as payloads
-use Rattle.grain128aead.specs.Order.{order}
+use Rattle.checks.specs.Order.{order}
+use Rattle.checks.specs.Demand1 as demand1
 use Rattle.grain128aead.specs.Calls as calls
-use Rattle.grain128aead.specs.Demand1 as demand1
 use Rattle.grain128aead.specs.Demand2 as demand2
 use Rattle.grain128aead.specs.Demand3 as demand3
 use Rattle.grain128aead.specs.Substitution as substitution

@@ -1,5 +1,4 @@
 pub mod Sizes
-pub mod Order
 pub mod Calls
 pub mod Demand1
 pub mod Demand2

@@ -5,13 +5,13 @@ ghost use Rattle.refusals.specs.Outcome.{outcome};
 ghost use Rattle.machine.specs.Engine.{stateOf};
 ghost use Rattle.key.specs.Sizes.{keySize, nonceSize};
 ghost use Rattle.payload.specs.Payload.{begun, payload};
-ghost use Rattle.grain128aead.specs.Order.{order};
+ghost use Rattle.checks.specs.Order.{order};
 ghost use Rattle.grain128aead.specs.Calls as calls;
-ghost use Rattle.grain128aead.specs.Demand1.{Demand1};
+ghost use Rattle.checks.specs.Demand1.{Demand1};
 ghost use Rattle.grain128aead.specs.Demand2.{Sealing, Demand2};
 ghost use Rattle.grain128aead.specs.Demand3.{Demand3};
 ghost use Rattle.grain128aead.specs.Substitution.{Substitution};
-use crate::checks;
+use crate::limits::AD_LIMIT;
 use crate::limits::MESSAGE_LIMIT;
 use machine::edition::Edition;
 use machine::engine::Engine;
@@ -47,7 +47,7 @@ pub fn seal(
     let n = message.len();
     let too_long = MESSAGE_LIMIT < n;
     let no_room = out.len() < n + 8;
-    match checks::judge(key, nonce, ad, too_long, false, no_room) {
+    match checks::judge(key, nonce, ad, AD_LIMIT, too_long, false, no_room) {
         Check::Failed(r) => Answer::Refused(r),
         Check::Passed => {
             let begun = begin(edition, key, nonce, ad);
@@ -78,7 +78,7 @@ pub fn open(
     let too_long = MESSAGE_LIMIT + 8 < n;
     let too_short = n < 8;
     let no_room = out.len() + 8 < n;
-    match checks::judge(key, nonce, ad, too_long, too_short, no_room) {
+    match checks::judge(key, nonce, ad, AD_LIMIT, too_long, too_short, no_room) {
         Check::Failed(r) => Answer::Refused(r),
         Check::Passed => {
             let ciphertext = payload::parts::ciphertext_part(input);

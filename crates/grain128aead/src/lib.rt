@@ -1,6 +1,5 @@
 // Grain-128AEAD: sealing and opening of whole byte strings. Where no edition is named, it is the first.
 pub mod by_edition;
-mod checks;
 pub mod limits;
 
 ghost use mathlib.Core.Path.{_≡_};

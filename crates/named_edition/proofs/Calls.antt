@@ -13,13 +13,14 @@ use Rattle.machine.specs.declared.edition.Edition.{Edition}
 use Rattle.startup.specs.Naming.{known, named}
 use Rattle.startup.proofs.Naming.{names}
 use Rattle.payload.specs.Payload.{payload}
-use Rattle.grain128aead.specs.Order as anyEdition
+use Rattle.checks.specs.Order as anyEdition
+use Rattle.grain128aead.specs.Sizes.{adLimit}
 use Rattle.grain128aead.specs.Calls as calls
-use Rattle.grain128aead.specs.Demand1.{Demand1}
+use Rattle.checks.specs.Demand1.{Demand1}
 use Rattle.grain128aead.specs.Demand2.{Sealing, Demand2}
 use Rattle.grain128aead.specs.Demand3.{Demand3}
 use Rattle.grain128aead.specs.Substitution.{Substitution}
-use Rattle.grain128aead.proofs.Demand1.{tabled, demand1}
+use Rattle.checks.proofs.Demand1.{tabled, demand1}
 use Rattle.grain128aead.proofs.Demand2 as each2
 use Rattle.grain128aead.proofs.Demand3 as each3
 use Rattle.grain128aead.proofs.Substitution as eachS
@@ -68,7 +69,7 @@ module _ (n : ℕ) (key nonce ad message out : List ℕ) where
   pub demand1-sealing : Demand1 order (among (sealingRows n key nonce ad message out)) (payload (named n) key nonce ad message) out (sealed n key nonce ad message out)
   unfolding sealed
   demand1-sealing =
-      demand1 order (sealingRows n key nonce ad message out) (ap (λ (rs : List Refusal). UnknownEdition ∷ rs) (tabled key nonce ad _ _ _ _)) (payload (named n) key nonce ad message) out
+      demand1 order (sealingRows n key nonce ad message out) (ap (λ (rs : List Refusal). UnknownEdition ∷ rs) (tabled adLimit key nonce ad _ _ _ _)) (payload (named n) key nonce ad message) out
 
   pub sealing : InNamed n (λ e. Sealing e key nonce ad message out (sealed n key nonce ad message out))
   unfolding sealed calls.sealed
@@ -88,7 +89,7 @@ module _ (n : ℕ) (key nonce ad input out : List ℕ) where
   pub demand1-opening : Demand1 order (among (openingRows n key nonce ad input out)) (calls.recovered (named n) key nonce ad input) out (opened n key nonce ad input out)
   unfolding opened
   demand1-opening =
-      demand1 order (openingRows n key nonce ad input out) (ap (λ (rs : List Refusal). UnknownEdition ∷ rs) (tabled key nonce ad _ _ _ _)) (calls.recovered (named n) key nonce ad input) out
+      demand1 order (openingRows n key nonce ad input out) (ap (λ (rs : List Refusal). UnknownEdition ∷ rs) (tabled adLimit key nonce ad _ _ _ _)) (calls.recovered (named n) key nonce ad input) out
 
   -- What holds of opening in each edition.
   opening : (P : Edition → Outcome → Type 0) → ((e : Edition) → P e (calls.opened e key nonce ad input out)) → InNamed n (λ e. P e (opened n key nonce ad input out))

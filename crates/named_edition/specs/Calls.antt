@@ -13,7 +13,7 @@ use Rattle.machine.specs.declared.edition.Edition.{Edition}
 use Rattle.startup.specs.Editions as editions
 use Rattle.startup.specs.Naming.{known, named}
 use Rattle.payload.specs.Payload.{payload}
-use Rattle.grain128aead.specs.Order as anyEdition
+use Rattle.checks.specs.Order as anyEdition
 use Rattle.grain128aead.specs.Calls.{sealingTable, openingTable, recovered}
 
 abbrev pub order : List Refusal

@@ -4,7 +4,7 @@ ghost use Rattle.refusals.specs.Outcome.{outcome};
 ghost use Rattle.refusals.specs.Refusals.{among};
 ghost use Rattle.startup.specs.Naming as naming;
 ghost use Rattle.grain128aead.specs.Calls as calls;
-ghost use Rattle.grain128aead.specs.Demand1.{Demand1};
+ghost use Rattle.checks.specs.Demand1.{Demand1};
 ghost use Rattle.grain128aead.specs.Demand2.{Demand2};
 ghost use Rattle.grain128aead.specs.Demand3.{Demand3};
 ghost use Rattle.grain128aead.specs.Substitution.{Substitution};

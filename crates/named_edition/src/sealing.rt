@@ -4,7 +4,7 @@ ghost use Rattle.refusals.specs.Outcome.{outcome};
 ghost use Rattle.refusals.specs.Refusals.{among};
 ghost use Rattle.startup.specs.Naming as naming;
 ghost use Rattle.payload.specs.Payload.{payload};
-ghost use Rattle.grain128aead.specs.Demand1.{Demand1};
+ghost use Rattle.checks.specs.Demand1.{Demand1};
 ghost use Rattle.grain128aead.specs.Demand2.{Sealing};
 ghost use Rattle.named_edition.specs.Calls as named;
 use grain128aead::by_edition;

@@ -14,10 +14,10 @@ use Rattle.refusals.specs.declared.Check.{Check}
 use Rattle.refusals.specs.Outcome.{Outcome}
 use Rattle.machine.specs.declared.edition.Edition.{Edition}
 use Rattle.payload.specs.Sizes.{tagSize}
-use Rattle.grain128aead.specs.Sizes.{messageLimit}
-use Rattle.grain128aead.specs.Order.{order}
+use Rattle.grain128aead.specs.Sizes.{adLimit, messageLimit}
+use Rattle.checks.specs.Order.{order}
 use Rattle.grain128aead.specs.Calls.{openingRow, recovered, opened}
-use Rattle.grain128aead.specs.Demand1.{Demand1}
+use Rattle.checks.specs.Demand1.{Demand1}
 use Rattle.grain128aead.specs.Demand2.{Demand2}
 use Rattle.grain128aead.specs.Demand3.{Demand3}
 use Rattle.grain128aead.specs.Substitution.{Substitution}
@@ -57,7 +57,7 @@ sized key nonce ad input lent e = e ∙ ap (judgement key nonce ad (ltb (message
 checked : (j : tie.After-judge) →
     let a = j .before .before .before .before .before .before .args in
     OpenChecked (a .key .now) (a .nonce .now) (a .ad .now) (a .input .now) (a .out .now) (j .judge .result)
-unfolding messageLimit
+unfolding adLimit messageLimit
 checked j =
     let a = j .before .before .before .before .before .before .args in
     record { checked = sized (a .key .now) (a .nonce .now) (a .ad .now) (a .input .now) (a .out .now) (j .judge .ensures) }

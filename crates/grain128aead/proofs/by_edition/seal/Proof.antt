@@ -11,10 +11,10 @@ use Rattle.refusals.specs.Outcome.{Outcome}
 use Rattle.machine.specs.declared.edition.Edition.{Edition}
 use Rattle.payload.specs.Sizes.{tagSize}
 use Rattle.payload.specs.Payload.{payload}
-use Rattle.grain128aead.specs.Sizes.{messageLimit}
-use Rattle.grain128aead.specs.Order.{order}
+use Rattle.grain128aead.specs.Sizes.{adLimit, messageLimit}
+use Rattle.checks.specs.Order.{order}
 use Rattle.grain128aead.specs.Calls.{sealingRow, sealed}
-use Rattle.grain128aead.specs.Demand1.{Demand1}
+use Rattle.checks.specs.Demand1.{Demand1}
 use Rattle.grain128aead.specs.Demand2.{Sealing}
 use Rattle.grain128aead.proofs.Demand2.{demand1-sealing, sealing}
 use Rattle.grain128aead.proofs.Entry.{SealChecked, seal-failed, seal-clear, seal-room, seal-passed}
@@ -36,7 +36,7 @@ called ed key nonce ad message out e = (
 checked : (j : tie.After-judge) →
     let a = j .before .before .before .before .before .before .args in
     SealChecked (a .key .now) (a .nonce .now) (a .ad .now) (a .message .now) (a .out .now) (j .judge .result)
-unfolding messageLimit
+unfolding adLimit messageLimit
 checked j = record { checked = j .judge .ensures }
 
 add-no-room : tie.Need-add-no-room

@@ -12,7 +12,7 @@ use Rattle.refusals.specs.Refusals.{among}
 use Rattle.machine.specs.declared.edition.Edition.{Edition}
 use Rattle.startup.specs.Naming as naming
 use Rattle.grain128aead.specs.Calls as calls
-use Rattle.grain128aead.specs.Demand1.{Demand1}
+use Rattle.checks.specs.Demand1.{Demand1}
 use Rattle.grain128aead.specs.Demand2.{Demand2}
 use Rattle.grain128aead.specs.Demand3.{Demand3}
 use Rattle.grain128aead.specs.Substitution.{Substitution}

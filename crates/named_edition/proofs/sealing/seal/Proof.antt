@@ -11,7 +11,7 @@ use Rattle.machine.specs.declared.edition.Edition.{Edition}
 use Rattle.startup.specs.Naming as naming
 use Rattle.payload.specs.Payload.{payload}
 use Rattle.grain128aead.specs.Calls as calls
-use Rattle.grain128aead.specs.Demand1.{Demand1}
+use Rattle.checks.specs.Demand1.{Demand1}
 use Rattle.grain128aead.specs.Demand2.{Sealing}
 use Rattle.named_edition.specs.Calls.{order, sealingRows, sealed, InNamed}
 use Rattle.named_edition.proofs.Calls.{sealed-unknown, sealed-known, demand1-sealing, sealing}

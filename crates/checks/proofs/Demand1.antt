@@ -10,9 +10,9 @@ use Rattle.refusals.specs.Outcome.{judged}
 use Rattle.refusals.specs.Demand1.{Clear}
 use Rattle.refusals.proofs.Demand1 as anyCall
 use Rattle.refusals.proofs.Rows.{no-other}
-use Rattle.grain128aead.specs.Order.{beforeTag, order}
-use Rattle.grain128aead.specs.Calls.{table, rows}
-use Rattle.grain128aead.specs.Demand1.{Numbered, Tabled, Demand1}
+use Rattle.checks.specs.Order.{beforeTag, order}
+use Rattle.checks.specs.Rows.{table}
+use Rattle.checks.specs.Demand1.{Numbered, Tabled, Demand1}
 
 pub numbered : Numbered
 unfolding order beforeTag
@@ -20,7 +20,7 @@ numbered = refl
 
 pub tabled : Tabled
 unfolding order beforeTag table
-tabled key nonce ad tooLong tooShort noRoom wrongTag = refl
+tabled limit key nonce ad tooLong tooShort noRoom wrongTag = refl
 
 -- Over any rows, in their order.
 module _ (rs : List Refusal) (rows : List Row) (listed : map (λ row. row .refusal) rows ≡ rs) where

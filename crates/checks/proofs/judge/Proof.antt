@@ -1,14 +1,13 @@
--- `grain128aead::checks::judge` meets its contract.
+-- `checks::judge` meets its contract.
 -- Assumes nothing.
 use mathlib.Core.Bool.{false}
 use borrow.Author.Needs.{needs}
 use Rattle.refusals.specs.Refusals.{among}
 use Rattle.refusals.proofs.Rows.{check-in-order}
-use Rattle.grain128aead.specs.Sizes.{adLimit}
-use Rattle.grain128aead.specs.Order.{beforeTag}
-use Rattle.grain128aead.specs.Calls.{table, rows}
-use Rattle.grain128aead.proofs.checks.judge.Statement.{statement}
-use Rattle.grain128aead.proofs.checks.judge.Tie as tie
+use Rattle.checks.specs.Order.{beforeTag}
+use Rattle.checks.specs.Rows.{table, rows}
+use Rattle.checks.proofs.judge.Statement.{statement}
+use Rattle.checks.proofs.judge.Tie as tie
 
 is-blank-requires : tie.Need-is-blank-requires
 is-blank-requires c κs = search needs
@@ -35,7 +34,7 @@ after-requires-7 : tie.Need-after-requires-7
 after-requires-7 c κs = search needs
 
 returns : tie.Need-returns
-unfolding beforeTag table among adLimit
+unfolding beforeTag table among
 returns c =
     let c6 = c .before in
     let c5 = c6 .before in
@@ -46,7 +45,7 @@ returns c =
     let b = c1 .before in
     let a = b .before .before .before .before .args in
     rw (c .after7 .ensures, c6 .after6 .ensures, c5 .after5 .ensures, c4 .after4 .ensures, c3 .after3 .ensures, c2 .after2 .ensures, c1 .after .ensures, b .is-blank .ensures)
-    (check-in-order (rows (a .key .now) (a .nonce .now) (a .ad .now) (a .too-long) (a .too-short) (a .no-room) false) beforeTag)
+    (check-in-order (rows (a .limit) (a .key .now) (a .nonce .now) (a .ad .now) (a .too-long) (a .too-short) (a .no-room) false) beforeTag)
 
 pub judge-spec : {M : Type 1} → statement M
 judge-spec =

@@ -1,0 +1,2 @@
+pub mod Demand1
+pub mod Rows

@@ -1,0 +1,3 @@
+pub mod Order
+pub mod Rows
+pub mod Demand1
