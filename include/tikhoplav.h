@@ -10,9 +10,9 @@
  * The two editions
  *
  *   Edition 1 is Grain-128AEAD, edition 2 is Grain-128AEADv2. tikhoplav_seal_edition and tikhoplav_open_edition name
- *   the edition; tikhoplav_seal and tikhoplav_open mean edition 1. The two don't open one another: what one sealed the
- *   other refuses, with TIKHOPLAV_REFUSED_TAG_DIFFERS (each payload opens under the other with probability 2^-64, by
- *   chance). Nothing in a payload tells its edition: both sides have to agree on it beforehand.
+ *   the edition; tikhoplav_seal and tikhoplav_open mean edition 1. The two don't open one another: opening under the
+ *   wrong edition is like opening under a wrong key, and answers TIKHOPLAV_REFUSED_TAG_DIFFERS (a tag of 64 bits can't
+ *   exclude that it fits by chance). Nothing in a payload tells its edition: both sides have to agree on it beforehand.
  *
  *   Which one a partner's box is likely to speak: edition 2, if it says Grain-128AEADv2, or was written after about
  *   2021; that is what the designers sent to the last round of NIST's lightweight cryptography project, and what their
