@@ -22,7 +22,7 @@ RUSTC ?= $(or $(shell command -v rustc),$(wildcard $(HOME)/.cargo/bin/rustc),rus
 
 OUT := build/outside
 
-.PHONY: outside-build outside-test outside-lint bench demo install have-rt have-cc have-c++ have-rustc
+.PHONY: outside-build outside-test try-model try-calls outside-lint bench demo install have-rt have-cc have-c++ have-rustc
 
 outside-build: have-rt have-cc have-rustc build/libtikhoplav.a build/tikhoplav
 
@@ -44,7 +44,7 @@ $(OUT):
 	mkdir -p $@
 
 # The archive depends on the files that are proved and on their folders, so that a removed file counts too.
-VERIFIED := bits key refusals preoutput strokes authenticator machine startup strings payload checks grain128aead named_edition capi
+VERIFIED := bits key lengths refusals preoutput strokes authenticator machine startup strings payload checks grain128aead named_edition capi
 PROVED := $(shell find $(foreach crate,$(VERIFIED),$(wildcard $(addprefix crates/$(crate)/,src specs proofs))))
 
 build/libtikhoplav.a: crates.txt $(PROVED) | $(OUT)
@@ -99,7 +99,15 @@ $(OUT)/calls-c++:
 $(OUT)/calls-plain:
 	$(C99) -g $< build/libtikhoplav.a -o $@
 
+# The model's comparisons take as long as all the others: they run beside them.
 outside-test: have-c++ outside-build $(CALLS) $(OUT)/stack $(OUT)/harness
+	@$(MAKE) -s --no-print-directory -f outside.mk -j 2 -Otarget try-model try-calls
+
+try-model:
+	@echo '== the archive beside the model'
+	@$(OUT)/harness
+
+try-calls:
 	@echo '== the header alone, as C and as C++'
 	@$(C99) -fsyntax-only -x c include/tikhoplav.h
 	@$(CXX11) -fsyntax-only include/tikhoplav.h
@@ -119,10 +127,8 @@ outside-test: have-c++ outside-build $(CALLS) $(OUT)/stack $(OUT)/harness
 	@echo '== the command-line tool'
 	@tests/tool.sh build/tikhoplav include/tikhoplav.h
 	@echo '== the installation'
-	@$(MAKE) -s --no-print-directory -f $(firstword $(MAKEFILE_LIST)) install DESTDIR= PREFIX=$(CURDIR)/$(OUT)/installed
+	@$(MAKE) -s --no-print-directory -f outside.mk install DESTDIR= PREFIX=$(CURDIR)/$(OUT)/installed
 	@tests/installed.sh $(CURDIR)/$(OUT)/installed $(VERSION) $(CC)
-	@echo '== the archive beside the model'
-	@$(OUT)/harness
 
 CLIPPY := clippy-driver --edition 2021 -D warnings --emit=metadata --out-dir $(OUT)/lint -L native=build
 

@@ -44,7 +44,16 @@ fn longer() {
     both(b"AD of 256 counting bytes, message of 37", &ad3, &message);
 }
 
+// The tag of no AD and no message under a key and a nonce of zeros, on the machine below the calls, which refuse that key.
+fn under_zeros(name: &[u8], edition: Edition) {
+    let begun = payload::header::begin(edition, &[0u8; 16], &[0u8; 12], b"");
+    shown::word(name, payload::tag::finish(begun));
+}
+
 pub fn all() {
+    shown::title(b"tag of no AD and no message under a key and a nonce of zeros");
+    under_zeros(b"edition 1           ", Edition::First);
+    under_zeros(b"edition 2           ", Edition::Second);
     short();
     longer();
 }

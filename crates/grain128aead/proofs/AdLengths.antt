@@ -2,7 +2,7 @@
 -- Assumes nothing.
 use native.Mathlib.Nat.{lt-of-le-of-lt}
 use lib.Dec.{lit<}
-use Rattle.payload.proofs.CodedLength.{distinguished}
+use Rattle.lengths.proofs.CodedLength.{distinguished}
 use Rattle.grain128aead.specs.Sizes.{adLimit, TwoBytes, LegalLengths}
 
 pub two-bytes : TwoBytes

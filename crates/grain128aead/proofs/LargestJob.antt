@@ -2,7 +2,7 @@
 -- Assumes nothing.
 use mathlib.Core.Path.{refl}
 use lib.ListN.{length}
-use Rattle.payload.specs.AuthenticatedString.{codedLength}
+use Rattle.lengths.specs.CodedLength.{codedLength}
 use Rattle.payload.specs.Job.{stringBits, jobClocks}
 use Rattle.payload.proofs.AuthenticatedString.{length-authenticated}
 use Rattle.payload.proofs.Job.{job-grows}

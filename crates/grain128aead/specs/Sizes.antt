@@ -1,6 +1,6 @@
 -- The limits in bytes (document 02, C-14).
 use Prim.Native.Nat.{ℕ, _^_, _≤_, _<_}
-use Rattle.payload.specs.AuthenticatedString.{codedLength, Distinguished}
+use Rattle.lengths.specs.CodedLength.{codedLength, Distinguished}
 
 unfoldable pub adLimit : ℕ
 adLimit = 65535

@@ -12,10 +12,11 @@ use Rattle.bits.proofs.Packing.{Bytes-append}
 use Rattle.machine.specs.declared.edition.Edition.{Edition}
 use Rattle.startup.specs.Editions.{bitsIn}
 use Rattle.startup.proofs.Order.{bitsIn-append, length-bitsIn, bitsIn-injective}
-use Rattle.payload.specs.AuthenticatedString.{codedLength, header, authenticated}
+use Rattle.lengths.specs.CodedLength.{codedLength}
+use Rattle.payload.specs.AuthenticatedString.{header, authenticated}
 use Rattle.payload.specs.Job.{stringBits}
 use Rattle.payload.specs.Laws.{Unambiguous}
-use Rattle.payload.proofs.CodedLength.{distinguished, coded-prefix}
+use Rattle.lengths.proofs.CodedLength.{distinguished, coded-prefix}
 
 -- Equal joins whose first parts are equally long have equal parts.
 append-split : (s t u v : List ℕ) → length s ≡ length u → s ++ t ≡ u ++ v → (s ≡ u) × (t ≡ v)

@@ -12,7 +12,8 @@ use Rattle.machine.specs.Engine.{stateOf}
 use Rattle.machine.proofs.Machine.{run-append, run-edition}
 use Rattle.startup.specs.Editions.{bitsIn, started, initialised}
 use Rattle.strings.proofs.OverBytes.{run-two, run-three}
-use Rattle.payload.specs.AuthenticatedString.{codedLength, header}
+use Rattle.lengths.specs.CodedLength.{codedLength}
+use Rattle.payload.specs.AuthenticatedString.{header}
 use Rattle.payload.specs.Payload.{begun}
 
 -- What an engine carries.

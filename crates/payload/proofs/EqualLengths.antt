@@ -18,7 +18,8 @@ use Rattle.key.specs.Sizes.{keySize, nonceSize}
 use Rattle.startup.specs.Editions.{bitsIn, flipIn, initialised}
 use Rattle.startup.proofs.Order.{length-bitsIn, as-many-bitsIn, length-flipIn, sum-flipIn}
 use Rattle.startup.proofs.Sizes.{initialised-sized}
-use Rattle.payload.specs.AuthenticatedString.{codedLength, header, authenticated}
+use Rattle.lengths.specs.CodedLength.{codedLength}
+use Rattle.payload.specs.AuthenticatedString.{header, authenticated}
 use Rattle.payload.specs.Laws.{registerAt, flippedRegisters}
 use Rattle.payload.specs.TwoTags.{differingRegisters, EqualLengths}
 

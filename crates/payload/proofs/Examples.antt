@@ -6,7 +6,8 @@ use Rattle.preoutput.specs.Generator.{preoutput, clock}
 use Rattle.authenticator.specs.Authenticator.{absorb, add, move}
 use Rattle.startup.specs.StartUp.{loaded}
 use Rattle.startup.specs.Editions.{ordered, bitsIn}
-use Rattle.payload.specs.AuthenticatedString.{codedLength, header, authenticated}
+use Rattle.lengths.specs.CodedLength.{codedLength}
+use Rattle.payload.specs.AuthenticatedString.{header, authenticated}
 use Rattle.payload.specs.Examples.{Starred}
 
 pub starred : Starred

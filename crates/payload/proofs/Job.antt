@@ -18,7 +18,7 @@ use Rattle.machine.proofs.Clocks.{run-clocked}
 use Rattle.payload.specs.AuthenticatedString.{authenticated}
 use Rattle.payload.specs.Job.{stringBits, jobClocks}
 use Rattle.payload.specs.Laws.{clocksOf, Clocked, JobGrows}
-use Rattle.payload.proofs.CodedLength.{coded-grows}
+use Rattle.lengths.proofs.CodedLength.{coded-grows}
 use Rattle.payload.proofs.AuthenticatedString.{length-authenticated}
 
 pub clocked : (ed : Edition) (key nonce ad message : List ℕ) → Clocked ed key nonce ad message

@@ -1,4 +1,3 @@
-pub mod CodedLength
 pub mod AuthenticatedString
 pub mod Job
 pub mod Payload

@@ -21,7 +21,8 @@ use Rattle.strings.proofs.ByteStrings.{keystreamUnder, length-keystreamUnder, b
 use Rattle.startup.specs.Editions.{bitsIn, flipIn, initialised}
 use Rattle.startup.proofs.Order.{length-bitsIn, length-bytesIn, bytesIn-are-bytes}
 use Rattle.payload.specs.Sizes.{tagSize}
-use Rattle.payload.specs.AuthenticatedString.{codedLength, header}
+use Rattle.lengths.specs.CodedLength.{codedLength}
+use Rattle.payload.specs.AuthenticatedString.{header}
 use Rattle.payload.specs.Payload.{begun, ciphertext, deciphered, tag, payload, ciphertextPart, tagPart}
 use Rattle.payload.specs.Laws.{Lengths, Parts}
 use Rattle.payload.proofs.AuthenticatedString.{length-authenticated}

@@ -12,7 +12,8 @@ use Rattle.preoutput.specs.Generator.{preoutput, fedBack}
 use Rattle.authenticator.specs.Authenticator.{absorb}
 use Rattle.machine.specs.declared.edition.Edition.the-variants.{First}
 use Rattle.startup.specs.StartUp.{loaded}
-use Rattle.payload.specs.AuthenticatedString.{codedLength, authenticated}
+use Rattle.lengths.specs.CodedLength.{codedLength}
+use Rattle.payload.specs.AuthenticatedString.{authenticated}
 
 pub record Example : Type 0 where
   pub number : ℕ

@@ -3,7 +3,7 @@ use Prim.Native.Nat.{ℕ, _+_, _*_}
 use lib.ListN.{length}
 use Rattle.machine.specs.declared.edition.Edition.{Edition}
 use Rattle.startup.specs.Editions.{runningFrom}
-use Rattle.payload.specs.AuthenticatedString.{codedLength}
+use Rattle.lengths.specs.CodedLength.{codedLength}
 
 -- Eight bits for each byte of the coded length, of the AD and of the message, and the final 1.
 unfoldable pub stringBits : (adLength messageLength : ℕ) → ℕ

@@ -21,7 +21,8 @@ use Rattle.startup.specs.StartUp.{loaded}
 use Rattle.startup.specs.Editions.{bitsIn, runningFrom, initialised}
 use Rattle.startup.specs.Laws.{startUpClocks}
 use Rattle.payload.specs.Sizes.{tagSize}
-use Rattle.payload.specs.AuthenticatedString.{codedLength, header, authenticated}
+use Rattle.lengths.specs.CodedLength.{codedLength}
+use Rattle.payload.specs.AuthenticatedString.{header, authenticated}
 use Rattle.payload.specs.Job.{stringBits, jobClocks}
 use Rattle.payload.specs.Payload.{ciphertext, tag, payload, ciphertextPart, tagPart}
 

@@ -3,7 +3,7 @@ ghost use mathlib.Core.Path.{_≡_};
 ghost use Rattle.machine.specs.Machine.{run};
 ghost use Rattle.machine.specs.Engine.{stateOf};
 ghost use Rattle.startup.specs.Editions.{bitsIn};
-ghost use Rattle.payload.specs.AuthenticatedString.{codedLength};
+ghost use Rattle.lengths.specs.CodedLength.{codedLength};
 ghost use Rattle.payload.specs.Payload.{begun};
 use machine::edition::Edition;
 use machine::engine::Engine;

@@ -8,7 +8,7 @@ use Rattle.machine.specs.Machine.{run}
 use Rattle.machine.specs.Engine.{stateOf}
 use Rattle.startup.proofs.Ordered.{bitsIn-lowest}
 use Rattle.payload.proofs.Begun.{absorbs-two, absorbs-three}
-use Rattle.payload.proofs.CodedLength.{coded-short, coded-one, coded-two}
+use Rattle.lengths.proofs.CodedLength.{coded-short, coded-one, coded-two}
 use Rattle.payload.proofs.header.absorb_length.Statement.{statement}
 use Rattle.payload.proofs.header.absorb_length.Tie as tie
 

@@ -16,7 +16,7 @@ use lib.Seq.{take-all}
 use Rattle.bits.specs.Bytes.{Bytes, bits, value, word}
 use Rattle.bits.proofs.Word.{value-word}
 use Rattle.bits.proofs.Spelling.{value-append}
-use Rattle.payload.specs.AuthenticatedString.{codedLength, lengthIn, decodedLength, DistinguishedLengths}
+use Rattle.lengths.specs.CodedLength.{codedLength, lengthIn, decodedLength, DistinguishedLengths}
 
 pub coded-short : (n : ℕ) → n ≤ 127 → codedLength n ≡ n ∷ []
 unfolding codedLength
