@@ -46,10 +46,7 @@ flip-append s t d e h =
 pub sum-flip : (s : List ℕ) (d : List Bool) → Flips s d → bits s ⊞ bits (flip s d) ≡ d
 sum-flip s d h = ap (λ (r : List Bool). bits s ⊞ r) (bits-flip s d h) ∙ sum-twice (bits s) d (le-of-eq (length-bits s ∙ sym h))
 
--- The sum of two strings of one length has a flip for each bit, and with these flips the first is the second.
-pub length-sum-bits : (s t : List ℕ) → length s ≡ length t → Flips s (bits s ⊞ bits t)
-length-sum-bits s t e = length-sum (bits s) (bits t) (as-many-bits s t e) ∙ length-bits s
-
+-- With the sum of two strings of one length as flips, the first is the second.
 pub flip-sum : (s t : List ℕ) → Bytes t → length s ≡ length t → flip s (bits s ⊞ bits t) ≡ t
 unfolding flip
 flip-sum s t h e = ap₂ bytes e (sum-twice (bits s) (bits t) (le-of-eq (as-many-bits s t e))) ∙ bytes-bits t h

@@ -9,14 +9,13 @@ use native.Mathlib.Numerals.{sub-one}
 use native.Mathlib.Omega.{arith}
 use lib.Bits.{bitOr, or-shifted}
 use lib.Pow.{pow-add, high, low, mod-pow-add, mod-mod-pow, shr-shr}
-use lib.Dec.{lit≤}
 use lib.ListN.{length, getD, take, drop, set, length-append, length-set}
 use lib.Seq.{take-suc, take-at, drop-at, drop-length, drop-cons, drop-set-lt, getD-set-same}
 use Rattle.bits.specs.Bit.{digit}
 use Rattle.bits.specs.Bytes.{word, value, bits, bytes}
-use Rattle.bits.proofs.Moved.{word-split, word-or}
+use Rattle.bits.proofs.Moved.{word-split}
 use Rattle.bits.proofs.Packing.{bits-append, length-bits}
-use Rattle.bits.proofs.Word.{value-word, word-value, word-agrees, word-append, length-word, shl-mod}
+use Rattle.bits.proofs.Word.{value-word, word-value, word-agrees, length-word, shl-mod}
 
 pub value-append : (s t : List Bool) → value (s ++ t) ≡ value s * 2 ^ length t + value t
 unfolding value
@@ -58,14 +57,8 @@ spelled s n h e =
     ∙ word-agrees (8 * length s) (value (bits s) % 2 ^ (64 - 8 * length s + 8 * length s)) (value (bits s)) (mod-mod-pow (value (bits s)) (64 - 8 * length s) (8 * length s))
     ∙ ap (λ (k : ℕ). word k (value (bits s))) (sym (length-bits s)) ∙ word-value (bits s)
 
--- Eight of them, or four above 32 given bits.
 pub spelled-eight : (s : List ℕ) (n : ℕ) → length s ≡ 8 → n ≡ value (bits s) % 2 ^ 64 → word 64 n ≡ bits s
 spelled-eight s n len e = ap (λ (k : ℕ). word (8 * k) n) (sym len) ∙ spelled s n (le-of-eq len) e
-
-pub spelled-four : (s : List ℕ) (n low : ℕ) → length s ≡ 4 → low < 2 ^ 32 → n ≡ value (bits s) % 2 ^ 64 → word 64 (bitOr (n * 2 ^ 32 % 2 ^ 64) low) ≡ bits s ++ word 32 low
-spelled-four s n low len h e =
-    word-or 32 32 n low h ∙ word-append 32 32 n low h
-    ∙ ap (λ (r : List Bool). r ++ word 32 low) (ap (λ (k : ℕ). word (8 * k) n) (sym len) ∙ spelled s n (rw len (lit≤ tt)) e)
 
 -- The bytes of a word, high byte first.
 pub bytes-word-cons : (n w : ℕ) → bytes (suc n) (word (8 * suc n) w) ≡ (w / 2 ^ (8 * n) % 256) ∷ bytes n (word (8 * n) w)

@@ -4,7 +4,7 @@ use mathlib.Core.Path.{_≡_, refl, sym, ap, ap₂, _∙_}
 use mathlib.Core.Bool.{Bool}
 use mathlib.Core.List.{List, [], _∷_, _++_, map, reverse, reverse-reverse}
 use Prim.Native.Nat.{ℕ, zero, suc, _+_, _-_, _*_, _<_}
-use native.Mathlib.Nat.{zero-add, suc-add, mod-eq-of-lt}
+use native.Mathlib.Nat.{zero-add, suc-add}
 use native.Mathlib.Omega.{arith}
 use lib.Dec.{lit<}
 use lib.ListN.{length, take, drop, length-drop, length-reverse}
@@ -13,7 +13,7 @@ use Rattle.bits.specs.Bytes.{word, value, Bytes, bits, bytes}
 use Rattle.bits.specs.Turned.{turned, Turns}
 use Rattle.bits.proofs.Packing.{bits-injective}
 use Rattle.bits.proofs.Spelling.{bytes-word-cons}
-use Rattle.bits.proofs.Word.{length-word, value-bound, value-word, word-value}
+use Rattle.bits.proofs.Word.{length-word, value-bound, word-value}
 
 pub word-turned : (b : ℕ) → word 8 (turned b) ≡ reverse (word 8 b)
 unfolding word turned
@@ -25,10 +25,6 @@ turned-bound b = value-bound (reverse (word 8 b))
 
 word-turned-twice : (b : ℕ) → word 8 (turned (turned b)) ≡ word 8 b
 word-turned-twice b = word-turned (turned b) ∙ ap reverse (word-turned b) ∙ reverse-reverse (word 8 b)
-
-pub turned-twice : (b : ℕ) → b < 256 → turned (turned b) ≡ b
-turned-twice b h =
-    sym (mod-eq-of-lt (turned-bound (turned b))) ∙ sym (value-word 8 (turned (turned b))) ∙ ap value (word-turned-twice b) ∙ value-word 8 b ∙ mod-eq-of-lt h
 
 pub bits-turned-twice : (s : List ℕ) → bits (map turned (map turned s)) ≡ bits s
 unfolding bits

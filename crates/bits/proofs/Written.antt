@@ -1,24 +1,13 @@
--- Bytes and words written into a byte string, as the string before, the bytes, and the string behind.
+-- Words written into a byte string, as the string before, the bytes, and the string behind.
 -- Assumes nothing.
-use mathlib.Core.Path.{_≡_, sym, ap, ap₂, _∙_}
-use mathlib.Core.List.{List, _∷_, _++_, append-nil}
-use Prim.Native.Nat.{ℕ, _+_, _-_, _*_, _<_, _≤_}
-use native.Mathlib.Nat.{mod-eq-of-lt, le-of-eq, add-sub-cancel-left}
-use native.Mathlib.Numerals.{add-one}
+use mathlib.Core.Path.{_≡_, ap, ap₂, _∙_}
+use mathlib.Core.List.{List, _++_, append-nil}
+use Prim.Native.Nat.{ℕ, _+_, _-_, _*_, _≤_}
+use native.Mathlib.Nat.{le-of-eq, add-sub-cancel-left}
 use native.Mathlib.Omega.{arith}
-use lib.ListN.{length, take, drop, set, length-drop, drop-of-length-le}
-use lib.Seq.{take-all, set-split, drop-drop, length-take-le}
-use Rattle.bits.specs.Bytes.{word, value, bytes}
-use Rattle.bits.proofs.Word.{length-word, value-word}
-
--- A byte written at place i.
-pub byte-written : (out : List ℕ) (i byte : ℕ) → i < length out → byte < 256 → set out i byte ≡ take i out ++ (bytes 1 (word 8 byte) ++ drop 1 (drop i out))
-unfolding bytes
-byte-written out i byte h small =
-    set-split out i byte h
-    ∙ ap₂ (λ (b : ℕ) (l : List ℕ). take i out ++ (b ∷ l))
-    (sym (ap value (take-all 8 (word 8 byte) (le-of-eq (length-word 8 byte))) ∙ value-word 8 byte ∙ mod-eq-of-lt small))
-    (ap (λ (n : ℕ). drop n out) (sym (add-one i)) ∙ sym (drop-drop 1 i out))
+use lib.ListN.{length, take, drop, length-drop, drop-of-length-le}
+use lib.Seq.{length-take-le}
+use Rattle.bits.specs.Bytes.{word, bytes}
 
 -- A word of k bytes written from place i on, and a string behind place i.
 pub word-written : (out : List ℕ) (i k w : ℕ) {ys : List ℕ} → i + k ≤ length out → ys ≡ bytes (length (take (i + k - i) (drop i out))) (word (8 * length (take (i + k - i) (drop i out))) w)

@@ -1,9 +1,9 @@
 -- The order of bits in a byte: an involution on byte strings, which carries the laws of bits, bytes and flips over to each edition.
 -- Assumes nothing.
-use mathlib.Core.Path.{_≡_, refl, sym, ap, ap₂, _∙_}
+use mathlib.Core.Path.{_≡_, refl, sym, ap, _∙_}
 use mathlib.Core.Bool.{Bool, false}
 use mathlib.Core.List.{List, [], _∷_, _++_, map, map-append, reverse}
-use Prim.Native.Nat.{ℕ, zero, suc, _+_, _-_, _*_, _<_, _≤_}
+use Prim.Native.Nat.{ℕ, zero, suc, _+_, _*_, _<_}
 use native.Mathlib.Nat.{le-of-suc-le-suc, not-suc-le-zero}
 use native.Mathlib.Omega.{arith}
 use lib.ListN.{length, getD, length-map, List·getD-append}
@@ -11,9 +11,9 @@ use lib.Seq.{getD-append-add}
 use Rattle.bits.specs.Bytes.{bit, word, Bytes, bits, bytes, flip}
 use Rattle.bits.specs.Strings.{_⊞_}
 use Rattle.bits.specs.Turned.{turned}
-use Rattle.bits.proofs.Flip.{Flips, length-flip, bits-flip, flip-flip, flip-append, flip-none, sum-flip, flip-sum}
-use Rattle.bits.proofs.Packing.{bits-append, length-bits, length-bytes, bytes-bits, bits-bytes, bytes-append, bytes-are-bytes, bits-injective}
-use Rattle.bits.proofs.Sum.{sum-self, length-sum}
+use Rattle.bits.proofs.Flip.{Flips, length-flip, bits-flip, flip-flip, flip-twice, flip-append, sum-flip, flip-sum}
+use Rattle.bits.proofs.Packing.{bits-append, length-bits, length-bytes, bytes-bits, bits-bytes, bytes-are-bytes, bits-injective}
+use Rattle.bits.proofs.Sum.{length-sum}
 use Rattle.bits.proofs.Turned.{word-turned, bits-turned-twice, turned-all-twice, Bytes-turned}
 use Rattle.bits.proofs.Word.{length-word, getD-word}
 use Rattle.machine.specs.declared.edition.Edition.{Edition}
@@ -123,10 +123,6 @@ module _ (e : Edition) where
   unfolding bitsIn bytesIn
   bitsIn-bytesIn n s h = bits-ordered-twice e (bytes n s) ∙ bits-bytes n s h
 
-  pub bytesIn-append : (m n : ℕ) (s t : List Bool) → length s ≡ 8 * m → bytesIn e (m + n) (s ++ t) ≡ bytesIn e m s ++ bytesIn e n t
-  unfolding bytesIn
-  bytesIn-append m n s t h = ap (ordered e) (bytes-append m n s t h) ∙ ordered-append e (bytes m s) (bytes n t)
-
   pub bitsIn-injective : (s t : List ℕ) → Bytes s → Bytes t → bitsIn e s ≡ bitsIn e t → s ≡ t
   unfolding bitsIn
   bitsIn-injective s t hs ht same =
@@ -161,9 +157,10 @@ module _ (e : Edition) where
       unfold flipIn in (ap (λ (t : List ℕ). ordered e (flip t f)) (ordered-flip s d) ∙ ap (ordered e) (flip-flip (ordered e s) d f (in-order s d h)))
 
   pub flipIn-twice : (s : List ℕ) (d : List Bool) → Bytes s → Flips s d → flipIn e (flipIn e s d) d ≡ s
+  unfolding flipIn
   flipIn-twice s d b h =
-      flipIn-flipIn s d d h ∙ ap (flipIn e s) (sum-self d)
-      ∙ unfold flipIn in (ap (ordered e) (flip-none (ordered e s) (length d) (ordered-bytes e s b) (in-order s d h)) ∙ ordered-twice e s b)
+      ap (λ (t : List ℕ). ordered e (flip t d)) (ordered-flip s d)
+      ∙ ap (ordered e) (flip-twice (ordered e s) d (ordered-bytes e s b) (in-order s d h)) ∙ ordered-twice e s b
 
   pub flipIn-append : (s t : List ℕ) (d f : List Bool) → Flips s d → flipIn e (s ++ t) (d ++ f) ≡ flipIn e s d ++ flipIn e t f
   unfolding flipIn
