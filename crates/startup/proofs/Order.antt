@@ -188,4 +188,4 @@ module _ (e : Edition) where
       ∙ ordered-twice e t b
 
 pub order : (e : Edition) → Order e
-order e = record { places = places e; there = bytesIn-bitsIn e; back = bitsIn-bytesIn e }
+order e = record { places = places e; there = bytesIn-bitsIn e; back = bitsIn-bytesIn e; flips = bitsIn-flipIn e }

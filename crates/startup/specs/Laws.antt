@@ -7,6 +7,7 @@ use Prim.Native.Nat.{ℕ, _+_, _-_, _*_, _≤_, _<_}
 use lib.ListN.{length, getD, take, drop, replicate}
 use Rattle.bits.specs.Bit.{_⊻_}
 use Rattle.bits.specs.Bytes.{Bytes, bit}
+use Rattle.bits.specs.Strings.{_⊞_}
 use Rattle.bits.specs.Times.{inTurn}
 use Rattle.preoutput.specs.Algebra.{single}
 use Rattle.preoutput.specs.Generator.{Generator, preoutput, clock, fedBack, keyed}
@@ -15,18 +16,20 @@ use Rattle.machine.specs.declared.edition.Edition.the-variants.{First, Second}
 use Rattle.machine.specs.Laws.{Sized}
 use Rattle.key.specs.Sizes.{keySize, nonceSize}
 use Rattle.startup.specs.StartUp.{loaded}
-use Rattle.startup.specs.Editions.{bitsIn, bytesIn, filling, runningFrom, initialised}
+use Rattle.startup.specs.Editions.{bitsIn, bytesIn, flipIn, filling, runningFrom, initialised}
 
 -- The weight of the bit of a byte that comes at place j, as a power of two.
 abbrev pub weight : Edition → (j : ℕ) → ℕ
 weight First j = 7 - j
 weight Second j = j
 
--- Bytes are the bits of each in this order, one byte after the other; the bits make the bytes again, and bytes made of bits have these bits.
+-- Bytes are the bits of each in this order, one byte after the other; the bits make the bytes again, bytes made of bits have these bits, and
+-- flipped bytes have the bits with the flips added.
 pub record Order (e : Edition) : Type 0 where
   pub places : (s : List ℕ) (i j : ℕ) → i < length s → j < 8 → getD (bitsIn e s) (8 * i + j) false ≡ bit (weight e j) (getD s i 0)
   pub there : (s : List ℕ) → Bytes s → bytesIn e (length s) (bitsIn e s) ≡ s
   pub back : (n : ℕ) (s : List Bool) → length s ≡ 8 * n → bitsIn e (bytesIn e n s) ≡ s
+  pub flips : (s : List ℕ) (d : List Bool) → length d ≡ 8 * length s → bitsIn e (flipIn e s d) ≡ bitsIn e s ⊞ d
 
 pub record Loading (e : Edition) (key nonce : List ℕ) : Type 0 where
   pub nfsr : loaded (bitsIn e key) (bitsIn e nonce) .nfsr ≡ bitsIn e key
