@@ -1,10 +1,10 @@
--- Refusals: their numbers, rows, and the first row that applies (document 01, "When the box says no"; numbers 15 and 23, document 02, C-18 and C-20).
+-- Refusals: their numbers, rows, and the first row that applies (document 01, "When the box says no"; numbers 8 to 12, 15 and 23, document 02, C-11, C-18 and C-20).
 use mathlib.Core.Bool.{Bool, false, cond}
 use mathlib.Core.List.{List, [], _∷_}
 use Prim.Native.Nat.{ℕ}
 use lib.Dec.{eqb}
 use Rattle.refusals.specs.declared.Refusal.{Refusal}
-use Rattle.refusals.specs.declared.Refusal.the-variants.{KeySize, NonceSize, AdTooLong, MessageTooLong, SealedTooShort, OutputTooShort, TagDiffers, BlankKey, UnknownEdition}
+use Rattle.refusals.specs.declared.Refusal.the-variants.{KeySize, NonceSize, AdTooLong, MessageTooLong, SealedTooShort, OutputTooShort, TagDiffers, IdentifierTooLarge, FrameMessageTooLong, NotCodedLength, WrongMessageLength, FillerNotZero, BlankKey, UnknownEdition}
 use Rattle.refusals.specs.declared.Check.{Check}
 use Rattle.refusals.specs.declared.Check.the-variants.{Passed, Failed}
 
@@ -16,6 +16,11 @@ number MessageTooLong = 4
 number SealedTooShort = 5
 number OutputTooShort = 6
 number TagDiffers = 7
+number IdentifierTooLarge = 8
+number FrameMessageTooLong = 9
+number NotCodedLength = 10
+number WrongMessageLength = 11
+number FillerNotZero = 12
 number BlankKey = 15
 number UnknownEdition = 23
 

@@ -12,6 +12,11 @@ pub enum Refusal {
     SealedTooShort,
     OutputTooShort,
     TagDiffers,
+    IdentifierTooLarge,
+    FrameMessageTooLong,
+    NotCodedLength,
+    WrongMessageLength,
+    FillerNotZero,
     BlankKey,
     UnknownEdition,
 }
@@ -40,6 +45,11 @@ pub fn number(r: Refusal) -> u8
         Refusal::SealedTooShort => 5,
         Refusal::OutputTooShort => 6,
         Refusal::TagDiffers => 7,
+        Refusal::IdentifierTooLarge => 8,
+        Refusal::FrameMessageTooLong => 9,
+        Refusal::NotCodedLength => 10,
+        Refusal::WrongMessageLength => 11,
+        Refusal::FillerNotZero => 12,
         Refusal::BlankKey => 15,
         Refusal::UnknownEdition => 23,
     }

@@ -1,0 +1,3 @@
+pub mod LengthCodes
+pub mod Rule
+pub mod Calls
