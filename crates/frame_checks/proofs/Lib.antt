@@ -1,0 +1,3 @@
+pub mod ZeroBytes
+pub mod FieldCodes
+pub mod Rows

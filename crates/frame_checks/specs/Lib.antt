@@ -1,0 +1,4 @@
+pub mod Layout
+pub mod Address
+pub mod Order
+pub mod Rows
