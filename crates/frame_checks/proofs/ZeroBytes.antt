@@ -9,7 +9,7 @@ use native.Mathlib.Omega.{arith}
 use borrow.Author.Tests.{eqb-true, eq-eqb, ne-eqb}
 use lib.Dec.{eqb}
 use lib.ListN.{length, getD, drop, replicate, drop-of-length-le}
-use lib.Seq.{drop-cons}
+use lib.Seq.{drop-cons, drop-nil}
 use Rattle.frame_checks.specs.Layout.{zeroBytes}
 
 -- Looked for one place after the other.
@@ -44,3 +44,20 @@ pub zeros-are : (n : ℕ) → zeroBytes (replicate n 0) ≡ true
 unfolding zeroBytes
 zeros-are zero = refl
 zeros-are (suc n) = zeros-are n
+
+-- What lies behind a place of zeros is zeros, and zeros behind a string don't matter.
+zero-drop : (k : ℕ) (s : List ℕ) → zeroBytes s ≡ true → zeroBytes (drop k s) ≡ true
+unfolding zeroBytes
+zero-drop zero s z = z
+zero-drop (suc k) [] z = refl
+zero-drop (suc k) (b ∷ s) z = go (eqb b 0) z (zero-drop k s)
+  where
+    go : (t : Bool) → (t && zeroBytes s) ≡ true → (zeroBytes s ≡ true → zeroBytes (drop k s) ≡ true) → zeroBytes (drop k s) ≡ true
+    go true z rest = rest z
+    go false z rest = absurd (true≢false (sym z))
+
+pub zeros-behind : (k : ℕ) (s t : List ℕ) → zeroBytes t ≡ true → zeroBytes (drop k (s ++ t)) ≡ zeroBytes (drop k s)
+unfolding zeroBytes
+zeros-behind k [] t z = zero-drop k t z ∙ sym (ap zeroBytes (drop-nil k))
+zeros-behind zero (b ∷ s) t z = ap (λ (r : Bool). eqb b 0 && r) (zeros-behind zero s t z)
+zeros-behind (suc k) (b ∷ s) t z = zeros-behind k s t z

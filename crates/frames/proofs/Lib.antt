@@ -1,0 +1,9 @@
+pub mod Parts
+pub mod Field
+pub mod Settled
+pub mod Demand2
+pub mod Flipped
+pub mod Demand3
+pub mod Damage
+pub mod Promises
+pub mod Entry
