@@ -1,4 +1,4 @@
--- The counts of sealing and opening fit a signed number.
+-- The counts of sealing and opening, and of making and reading a frame, fit a signed number.
 -- Assumes nothing.
 use mathlib.Core.Path.{_≡_, refl, subst}
 use mathlib.Core.Bool.{Bool, true, false}
@@ -6,6 +6,7 @@ use mathlib.Core.List.{List}
 use Prim.Native.Nat.{ℕ, _+_, _^_, _<_}
 use native.Mathlib.Omega.{arith}
 use lib.Dec.{lit<}
+use lib.ListN.{length}
 use Rattle.refusals.specs.declared.Refusal.the-variants.{UnknownEdition}
 use Rattle.refusals.specs.Outcome.{Outcome, refused}
 use Rattle.refusals.specs.Signed.{capped}
@@ -18,6 +19,11 @@ use Rattle.payload.proofs.Payload.{length-payload}
 use Rattle.grain128aead.specs.Sizes.{messageLimit}
 use Rattle.grain128aead.specs.Demand2.{Sealing, Demand2}
 use Rattle.named_edition.specs.Calls.{InNamed}
+use Rattle.frame_checks.proofs.FieldCodes.{fieldCodes}
+use Rattle.frames.specs.Field.{dataField}
+use Rattle.frames.specs.Demand2.{Making}
+use Rattle.frames.specs.Demand2 as frames
+use Rattle.frames.proofs.Field.{sized}
 
 limit-small : messageLimit + 8 < 2 ^ 63
 unfolding messageLimit
@@ -30,6 +36,16 @@ seal-fits e key nonce ad message out o s =
 pub open-fits : (e : Edition) (key nonce ad input out : List ℕ) (o : Outcome) → Demand2 e key nonce ad input out o → capped (o .answer) ≡ o .answer
 open-fits e key nonce ad input out o d =
     outcome-fits o (λ a. let h = d .accepts .0 a in (h .0, out, d .returns (h .0) (h .1) (h .2), omega (arith, limit-small, h .1 .legal .messageFits)))
+
+pub make-fits : (e : Edition) (key nonce : List ℕ) (identifier : ℕ) (message out : List ℕ) (o : Outcome) → Making e key nonce identifier message out o → capped (o .answer) ≡ o .answer
+make-fits e key nonce identifier message out o s =
+    outcome-fits o (λ a.
+    let h = s .accepts .0 a in
+    (dataField e key nonce identifier message, out, s .makes (h .0) (h .1), omega (arith, sized e key nonce identifier message (h .0 .messageFits), fieldCodes .within (length message) (h .0 .messageFits))))
+
+pub read-fits : (e : Edition) (key nonce : List ℕ) (identifier code : ℕ) (field out : List ℕ) (o : Outcome) → frames.Demand2 e key nonce identifier code field out o → capped (o .answer) ≡ o .answer
+read-fits e key nonce identifier code field out o d =
+    outcome-fits o (λ a. let h = d .accepts .0 a in (h .0, out, d .returns (h .0) (h .1) (h .2), omega (arith, h .1 .legal .messageFits)))
 
 -- In the edition that a number names; where it names none, there is no count.
 pub named-fits : (n : ℕ) (out : List ℕ) (o : Outcome) → (known n ≡ false → refused UnknownEdition out ≡ o) → InNamed n (λ e. capped (o .answer) ≡ o .answer) → capped (o .answer) ≡ o .answer

@@ -1,4 +1,7 @@
 // The calls for C: plain numbers and byte slices. A success is the count, refusal n is minus n.
+pub mod codes;
+pub mod framing;
+
 ghost use mathlib.Core.Path.{_≡_};
 ghost use lib.IntN.{pos};
 ghost use lib.ListN.{length};

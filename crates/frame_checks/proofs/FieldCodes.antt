@@ -23,6 +23,7 @@ fieldCodes = record {
   least = λ m h. leb-true 9 (fieldCode m) (below-at 56 (λ k. leb 9 (fieldCode k)) computed m (omega arith));
   most = λ m h. le-of-suc-le-suc (table .isCode (m + 9) (omega arith));
   holds = λ m h. table .holds (m + 9) (omega arith);
+  within = λ m h. table .within (fieldCode m) (table .isCode (m + 9) (omega arith));
   smallest = λ m code h. table .smallest (m + 9) code (omega arith);
   beyond = refl;
 }

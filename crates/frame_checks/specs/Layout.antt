@@ -49,5 +49,6 @@ pub record FieldCodes : Type 0 where
   pub least : (m : ℕ) → m ≤ messageLimit → 9 ≤ fieldCode m
   pub most : (m : ℕ) → m ≤ messageLimit → fieldCode m ≤ 15
   pub holds : (m : ℕ) → m ≤ messageLimit → m + overhead ≤ fieldSize m
+  pub within : (m : ℕ) → m ≤ messageLimit → fieldSize m ≤ 64
   pub smallest : (m code : ℕ) → m ≤ messageLimit → code < fieldCode m → codedLength code < m + overhead
   pub beyond : fieldCode (suc messageLimit) ≡ 16

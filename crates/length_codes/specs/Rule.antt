@@ -1,4 +1,4 @@
--- The rule of the table: codes rise, and the smallest code that holds a length is the smallest.
+-- The rule of the table: codes rise, up to 64 bytes, and the smallest code that holds a length is the smallest.
 use mathlib.Core.Path.{_≡_}
 use mathlib.Core.Bool.{Bool, true, _&&_}
 use Prim.Native.Nat.{ℕ, zero, suc, _≤_, _<_}
@@ -14,13 +14,17 @@ below (suc n) test = test n && below n test
 unfoldable pub rises : (code : ℕ) → Bool
 rises code = ltb (codedLength code) (codedLength (suc code))
 
+-- No code means more than 64.
+unfoldable pub within : (code : ℕ) → Bool
+within code = leb (codedLength code) 64
+
 -- The code that is given for a length holds it, and none below does.
 unfoldable pub smallest : (n : ℕ) → Bool
 smallest n = ltb (lengthCode n) 16 && (leb n (codedLength (lengthCode n)) && below (lengthCode n) (λ code. ltb (codedLength code) n))
 
 -- The rule over the whole table, as one test that computes.
 unfoldable pub rule : Bool
-rule = below 15 rises && below 65 smallest
+rule = below 15 rises && (below 16 within && below 65 smallest)
 
 abbrev pub Ruled : Type 0
 Ruled = rule ≡ true
@@ -28,6 +32,7 @@ Ruled = rule ≡ true
 -- What the test tells.
 pub record Table : Type 0 where
   pub rises : (code : ℕ) → code < 15 → codedLength code < codedLength (suc code)
+  pub within : (code : ℕ) → code < 16 → codedLength code ≤ 64
   pub isCode : (n : ℕ) → n ≤ 64 → lengthCode n < 16
   pub holds : (n : ℕ) → n ≤ 64 → n ≤ codedLength (lengthCode n)
   pub smallest : (n code : ℕ) → n ≤ 64 → code < lengthCode n → codedLength code < n
