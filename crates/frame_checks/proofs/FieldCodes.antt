@@ -10,7 +10,7 @@ use lib.Dec.{leb}
 use Rattle.length_codes.specs.LengthCodes.{codedLengths, firstHolding, lengthCode}
 use Rattle.length_codes.specs.Rule.{below}
 use Rattle.length_codes.proofs.Rule.{below-at, table}
-use Rattle.frame_checks.specs.Layout.{fieldCode, FieldCodes}
+use Rattle.frame_checks.specs.Layout.{overhead, fieldCode, FieldCodes}
 
 computed : below 56 (λ m. leb 9 (fieldCode m)) ≡ true
 unfolding below lengthCode firstHolding codedLengths
@@ -21,9 +21,9 @@ unfolding lengthCode firstHolding codedLengths
 fieldCodes = record {
   examples = refl;
   least = λ m h. leb-true 9 (fieldCode m) (below-at 56 (λ k. leb 9 (fieldCode k)) computed m (omega arith));
-  most = λ m h. le-of-suc-le-suc (table .isCode (m + 9) (omega arith));
-  holds = λ m h. table .holds (m + 9) (omega arith);
-  within = λ m h. table .within (fieldCode m) (table .isCode (m + 9) (omega arith));
-  smallest = λ m code h. table .smallest (m + 9) code (omega arith);
+  most = λ m h. le-of-suc-le-suc (table .isCode (m + overhead) (omega arith));
+  holds = λ m h. table .holds (m + overhead) (omega arith);
+  within = λ m h. table .within (fieldCode m) (table .isCode (m + overhead) (omega arith));
+  smallest = λ m code h. table .smallest (m + overhead) code (omega arith);
   beyond = refl;
 }

@@ -1,9 +1,9 @@
 -- The orders' numbers and rows, and what it means that no row applies.
 -- Assumes nothing.
-use mathlib.Core.Path.{_≡_, refl, sym, ap, _∙_}
+use mathlib.Core.Path.{_≡_, refl, ap}
 use mathlib.Core.Logic.{_≢_}
 use mathlib.Core.Bool.{Bool, true, false, true≢false, not, _||_}
-use mathlib.Core.List.{List, []}
+use mathlib.Core.List.{List}
 use Prim.Native.Nat.{ℕ, _≤_, _<_}
 use borrow.Author.Tests.{ltb-true, ltb-false, lt-ltb, le-ltb, leb-false, lt-leb, eqb-true, eqb-false, eq-eqb, ne-eqb, not-false}
 use lib.Dec.{eqb, leb, ltb}
@@ -19,7 +19,7 @@ use Rattle.length_codes.specs.LengthCodes.{codedLength}
 use Rattle.frame_checks.specs.Layout.{identifierLimit, messageLimit, fieldCode, fieldSize, announced, filler, zeroBytes}
 use Rattle.frame_checks.specs.Address.{Address}
 use Rattle.frame_checks.specs.Order.{addressed, making, beforeTag, reading, Numbered}
-use Rattle.frame_checks.specs.Rows.{addressRows, makingRows, notCoded, wrongLength, fillerNotZero, readingRows, Tabled}
+use Rattle.frame_checks.specs.Rows.{addressRows, makingRows, notCoded, wrongLength, readingRows, Tabled}
 
 pub numbered : Numbered
 unfolding making reading beforeTag addressed

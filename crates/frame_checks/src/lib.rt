@@ -26,14 +26,11 @@ pub fn judge_address(key: &[u8], nonce: &[u8], identifier: u32) -> Check
 pub fn judge_making(key: &[u8], nonce: &[u8], identifier: u32, message: &[u8], room: usize) -> Check
     ensures { λ r. ⌜ r ≡ refusals.check order.making (among (makingRows (now (key .entry)) (now (nonce .entry)) identifier (length (now (message .entry))) room)) ⌝ }
 {
-    let m = message.len();
+    let too_long = 55 < message.len();
+    let short = room < layout::field_size(message);
     let c = judge_address(key, nonce, identifier);
-    let c = refusals::after(c, Refusal::FrameMessageTooLong, 55 < m);
-    refusals::after(
-        c,
-        Refusal::OutputTooShort,
-        room < layout::field_size(message),
-    )
+    let c = refusals::after(c, Refusal::FrameMessageTooLong, too_long);
+    refusals::after(c, Refusal::OutputTooShort, short)
 }
 
 // The first row of reading before the tag's that applies, for an output of so many bytes.
@@ -47,17 +44,13 @@ pub fn judge_reading(
 ) -> Check
     ensures { λ r. ⌜ r ≡ refusals.check order.beforeTag (among (readingRows (now (key .entry)) (now (nonce .entry)) identifier code (now (field .entry)) room false)) ⌝ }
 {
+    let not_coded = layout::not_coded(code, field);
+    let wrong_length = layout::wrong_length(code, field);
+    let not_zero = layout::filler_not_zero(field);
+    let no_room = room < layout::announced(field) as usize;
     let c = judge_address(key, nonce, identifier);
-    let c = refusals::after(c, Refusal::NotCodedLength, layout::not_coded(code, field));
-    let c = refusals::after(
-        c,
-        Refusal::WrongMessageLength,
-        layout::wrong_length(code, field),
-    );
-    let c = refusals::after(c, Refusal::FillerNotZero, layout::filler_not_zero(field));
-    refusals::after(
-        c,
-        Refusal::OutputTooShort,
-        room < layout::announced(field) as usize,
-    )
+    let c = refusals::after(c, Refusal::NotCodedLength, not_coded);
+    let c = refusals::after(c, Refusal::WrongMessageLength, wrong_length);
+    let c = refusals::after(c, Refusal::FillerNotZero, not_zero);
+    refusals::after(c, Refusal::OutputTooShort, no_room)
 }

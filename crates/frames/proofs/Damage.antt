@@ -4,7 +4,7 @@ use mathlib.Core.Path.{_≡_, refl, sym, ap, _∙_, subst}
 use mathlib.Core.Logic.{_↔_}
 use mathlib.Core.Bool.{Bool, true, false, true≢false, not, cond}
 use mathlib.Core.List.{List, [], _∷_, _++_}
-use Prim.Native.Nat.{ℕ, suc, _+_, _-_, _*_, _≤_, _<_}
+use Prim.Native.Nat.{ℕ, suc, _+_, _-_, _*_, _≤_}
 use native.Mathlib.Omega.{arith}
 use borrow.Author.Tests.{lt-ltb, le-ltb}
 use lib.Dec.{ltb}
@@ -25,14 +25,14 @@ use Rattle.startup.proofs.Order.{length-flipIn, sum-flipIn}
 use Rattle.grain128aead.specs.Demand3.{Verdict}
 use Rattle.frame_checks.specs.Layout.{overhead, fieldSize, announced, sealedPart, filler, zeroBytes}
 use Rattle.frame_checks.specs.Rows.{wrongLength, fillerNotZero}
-use Rattle.frame_checks.proofs.Rows.{Announces, row-announces, announces-row, ReadingClear}
+use Rattle.frame_checks.proofs.Rows.{Announces, row-announces, announces-row}
 use Rattle.frame_checks.proofs.ZeroBytes.{zero-bytes, zeros-behind, zeros-are}
 use Rattle.frames.specs.Calls.{hidden, wrongTag, read}
 use Rattle.frames.specs.Demand2.{Makes, Demand2}
 use Rattle.frames.specs.Demand3.{Genuine}
 use Rattle.frames.specs.Damage.{FillerFlips, Fits, ZerosBehind, Altered, LengthFlips}
 use Rattle.frames.proofs.Field.{fill, sealed, made-announced, made-joined, made-sealed, made-filler, like-coded, like-announces}
-use Rattle.frames.proofs.Settled.{read-tag, read-field}
+use Rattle.frames.proofs.Settled.{read-field}
 use Rattle.frames.proofs.Demand2.{demand2}
 use Rattle.frames.proofs.Flipped.{behind-announced, behind-filler, behind-length, in-length}
 

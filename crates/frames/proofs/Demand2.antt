@@ -22,7 +22,6 @@ use Rattle.grain128aead.proofs.Demand2 as cipherProofs
 use Rattle.length_codes.specs.LengthCodes.{codedLength}
 use Rattle.frame_checks.specs.Layout.{overhead, fieldCode, fieldSize, announced, sealedPart, filler, zeroBytes}
 use Rattle.frame_checks.specs.Order as order
-use Rattle.frame_checks.proofs.FieldCodes.{fieldCodes}
 use Rattle.frame_checks.proofs.Rows.{making-clear, clear-making, ReadingClear, reading-clear, tabled}
 use Rattle.frame_checks.proofs.ZeroBytes.{zero-bytes, zeros-are}
 use Rattle.frames.specs.Field.{frameAd, dataField}

@@ -1,6 +1,6 @@
 -- Demand 3 for frames: that of the cipher, for the sealed part.
 -- Assumes nothing.
-use mathlib.Core.Path.{_≡_, refl, sym, ap, ap₂, _∙_, subst}
+use mathlib.Core.Path.{_≡_, refl, sym, ap, _∙_, subst}
 use mathlib.Core.Bool.{Bool, false}
 use mathlib.Core.List.{List, _++_}
 use Prim.Native.Nat.{ℕ, _+_, _-_, _*_, _≤_}
@@ -18,7 +18,7 @@ use Rattle.frame_checks.proofs.Rows.{ReadingClear}
 use Rattle.frame_checks.proofs.ZeroBytes.{zeros-are}
 use Rattle.frames.specs.Field.{frameAd}
 use Rattle.frames.specs.Calls.{read}
-use Rattle.frames.specs.Demand3.{Genuine, Flipped, Agrees, Demand3}
+use Rattle.frames.specs.Demand3.{Flipped, Agrees, Demand3}
 use Rattle.frames.proofs.Parts.{flipIn-none}
 use Rattle.frames.proofs.Field.{fill, length-sealed, made-sealed, made-filler, made-payload, like-coded, like-announces}
 use Rattle.frames.proofs.Settled.{read-opened}

@@ -1,9 +1,9 @@
 -- What the calls owe beside the walk of their code: what a passed check tells, and the field as it is written.
 -- Assumes nothing.
-use mathlib.Core.Path.{_≡_, refl, sym, ap, ap₂, _∙_, subst}
+use mathlib.Core.Path.{_≡_, refl, sym, ap, ap₂, _∙_}
 use mathlib.Core.Bool.{false}
-use mathlib.Core.List.{List, [], _∷_, _++_, append-assoc, append-nil}
-use Prim.Native.Nat.{ℕ, zero, suc, _+_, _-_, _*_, _/_, _%_, _^_, _≤_}
+use mathlib.Core.List.{List, _∷_, _++_, append-assoc, append-nil}
+use Prim.Native.Nat.{ℕ, zero, suc, _+_, _-_, _*_, _%_, _^_, _≤_}
 use native.Mathlib.Nat.{le-of-eq, zero-div}
 use native.Mathlib.Omega.{arith}
 use lib.ListN.{length, take, drop, set, replicate, length-set, drop-of-length-le}
@@ -18,7 +18,7 @@ use Rattle.refusals.specs.declared.Refusal.the-variants.{TagDiffers}
 use Rattle.refusals.specs.declared.Answer.{Answer}
 use Rattle.refusals.specs.declared.Answer.the-variants.{Count, Refused}
 use Rattle.refusals.specs.Refusals.{among, after, check}
-use Rattle.refusals.specs.Outcome.{Outcome, outcome, success, settled, judged}
+use Rattle.refusals.specs.Outcome.{Outcome, outcome, settled, judged}
 use Rattle.refusals.proofs.Demand1.{decides}
 use Rattle.checks.proofs.Demand1.{none-at-all}
 use Rattle.machine.specs.declared.edition.Edition.{Edition}
@@ -42,6 +42,13 @@ pub spelled-zero : (n : ℕ) → bytes n (word (8 * n) 0) ≡ replicate n 0
 unfolding bytes
 spelled-zero zero = refl
 spelled-zero (suc n) = bytes-word-cons n 0 ∙ ap₂ (λ (b : ℕ) (t : List ℕ). b % 256 ∷ t) (zero-div (2 ^ (8 * n))) (spelled-zero n)
+
+-- A byte and a part written keep the output's length.
+pub set-room : (l : List ℕ) (a : ℕ) {n : ℕ} → n ≤ length l → n ≤ length (set l 0 a)
+set-room l a h = omega (arith, length-set l 0 a)
+
+pub part-kept : (l : List ℕ) (a k : ℕ) (p : List ℕ) → length p ≡ length (midOf 1 k (set l 0 a)) → length (putMid 1 k (set l 0 a) p) ≡ length l
+part-kept l a k p h = same-len-mid 1 k (set l 0 a) p h ∙ length-set l 0 a
 
 -- M, then the payload, then zeros, each written behind the one before.
 module _ (m size : ℕ) (p lent : List ℕ) (long : length p ≡ m + 8) (holds : m + 9 ≤ size) (room : size ≤ length lent) where
@@ -137,7 +144,7 @@ module _ {key nonce : List ℕ} {identifier : ℕ} {message lent : List ℕ} {c 
           long = ap length wrote ∙ length-payload e key nonce (frameAd identifier (fieldCode m)) message
 
           same : length sealedOutput ≡ length lent
-          same = same-len-mid 1 (m + 9 - 1) (set lent 0 m) p (omega (arith, long, part)) ∙ length-set lent 0 m
+          same = part-kept lent m (m + 9 - 1) p (omega (arith, long, part))
 
           zeros : z ≡ replicate (size - (m + 9)) 0
           zeros = spelled ∙ spelled-zero (length (midOf (m + 9) (size - (m + 9)) sealedOutput)) ∙ ap (λ (n : ℕ). replicate n 0) (mid-len (m + 9) size sealedOutput (omega (arith, same, room)))

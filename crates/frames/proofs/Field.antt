@@ -1,13 +1,11 @@
 -- The field that a message makes: its size, its parts, and the message's payload in it.
 -- Assumes nothing.
-use mathlib.Core.Path.{_≡_, refl, sym, ap, _∙_}
-use mathlib.Core.List.{List, [], _∷_, _++_}
-use Prim.Native.Nat.{ℕ, zero, suc, _+_, _-_, _%_, _≤_, _<_}
-use native.Mathlib.Nat.{mod-lt}
+use mathlib.Core.Path.{_≡_, sym, ap, _∙_}
+use mathlib.Core.List.{List, _∷_}
+use Prim.Native.Nat.{ℕ, _+_, _-_, _≤_}
 use native.Mathlib.Omega.{arith}
 use lib.Dec.{lit≤}
-use lib.ListN.{length, getD, replicate, length-append, length-replicate}
-use Rattle.bits.specs.Bytes.{Bytes}
+use lib.ListN.{length, replicate, length-append, length-replicate}
 use Rattle.machine.specs.declared.edition.Edition.{Edition}
 use Rattle.payload.specs.Payload.{payload}
 use Rattle.payload.proofs.Payload.{length-payload}
@@ -18,7 +16,7 @@ use Rattle.frame_checks.specs.Layout.{overhead, fieldCode, fieldSize, announced
 use Rattle.frame_checks.proofs.FieldCodes.{fieldCodes}
 use Rattle.frame_checks.proofs.Rows.{Coded, Announces}
 use Rattle.frames.specs.Field.{frameAd, dataField, Sized}
-use Rattle.frames.specs.Demand2.{Legal, Makes}
+use Rattle.frames.specs.Demand2.{Makes}
 use Rattle.frames.proofs.Parts.{joined, joined-sealed, joined-filler}
 
 -- An AD of five bytes and a message of a frame are within the cipher's limits.

@@ -1,12 +1,12 @@
 -- A genuine field with bits flipped behind M, and with bits of M flipped: its parts.
 -- Assumes nothing.
-use mathlib.Core.Path.{_≡_, refl, sym, ap, ap₂, _∙_, subst}
+use mathlib.Core.Path.{_≡_, refl, sym, ap, ap₂, _∙_}
 use mathlib.Core.Bool.{Bool}
 use mathlib.Core.List.{List, [], _∷_, _++_}
-use Prim.Native.Nat.{ℕ, zero, suc, _+_, _-_, _*_, _≤_, _<_}
+use Prim.Native.Nat.{ℕ, zero, suc, _+_, _-_, _*_, _<_}
 use native.Mathlib.Omega.{arith}
 use lib.Dec.{lit<}
-use lib.ListN.{length, getD, replicate, length-append}
+use lib.ListN.{length, getD, replicate}
 use Rattle.bits.specs.Bytes.{Bytes}
 use Rattle.bits.specs.Strings.{zeros}
 use Rattle.bits.proofs.Flip.{Flips}
@@ -17,11 +17,10 @@ use Rattle.startup.proofs.Order.{length-flipIn, bytesIn-are-bytes, flipIn-appen
 use Rattle.payload.specs.Sizes.{tagSize}
 use Rattle.payload.specs.Payload.{ciphertext, tag, payload}
 use Rattle.frame_checks.specs.Layout.{overhead, fieldSize, announced, sealedPart, filler}
-use Rattle.frame_checks.proofs.Rows.{Coded}
 use Rattle.frames.specs.Field.{frameAd}
 use Rattle.frames.specs.Demand3.{Genuine}
 use Rattle.frames.proofs.Parts.{joined, joined-sealed, joined-filler, flipIn-none, flipped-behind}
-use Rattle.frames.proofs.Field.{fill, sealed, length-sealed, made-joined, made-sealed, made-filler}
+use Rattle.frames.proofs.Field.{fill, sealed, length-sealed, made-joined, made-sealed}
 
 -- Strings of bytes: one byte, zeros, a payload, an AD.
 pub one-byte : (m : ℕ) → m < 256 → Bytes (m ∷ [])

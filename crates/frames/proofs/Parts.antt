@@ -4,10 +4,10 @@ use mathlib.Core.Path.{_≡_, refl, sym, ap, ap₂, _∙_}
 use mathlib.Core.Logic.{_≢_}
 use mathlib.Core.Bool.{Bool}
 use mathlib.Core.List.{List, [], _∷_, _++_}
-use Prim.Native.Nat.{ℕ, suc, _+_, _-_, _*_, _≤_, _<_}
+use Prim.Native.Nat.{ℕ, _+_, _-_, _*_, _<_}
 use native.Mathlib.Omega.{arith}
-use lib.ListN.{length, getD, take, drop, length-append, length-take, length-drop, take-append-drop}
-use lib.Seq.{take-at, drop-at, drop-cons, drop-drop, length-take-le}
+use lib.ListN.{length, drop, take-append-drop}
+use lib.Seq.{take-at, drop-at, drop-cons, drop-drop}
 use Rattle.bits.specs.Bytes.{Bytes}
 use Rattle.bits.specs.Strings.{zeros}
 use Rattle.bits.proofs.Flip.{Flips, flip-none}

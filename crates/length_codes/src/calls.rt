@@ -21,5 +21,6 @@ pub fn length_code(length: usize) -> Answer
     if 64 < length {
         return Answer::Refused(Refusal::NotCodedLength);
     }
-    Answer::Count(crate::length_code(length) as usize)
+    let code = crate::length_code(length) as usize;
+    Answer::Count(code)
 }

@@ -1,12 +1,12 @@
 -- `frame_checks::layout::filler_not_zero` meets its contract.
 -- Assumes nothing.
-use mathlib.Core.Path.{_≡_, refl, sym, ap, _∙_}
-use mathlib.Core.Bool.{Bool, not}
+use mathlib.Core.Path.{_≡_, sym, ap, _∙_}
+use mathlib.Core.Bool.{not}
 use Prim.Native.Nat.{ℕ, _+_, _-_}
 use native.Mathlib.Omega.{arith}
 use borrow.Author.Needs.{needs}
 use lib.ListN.{length, drop}
-use Rattle.frame_checks.specs.Layout.{announced, filler, zeroBytes}
+use Rattle.frame_checks.specs.Layout.{overhead, announced, filler, zeroBytes}
 use Rattle.frame_checks.proofs.ZeroBytes.{zero-on, zero-not, zero-end}
 use Rattle.frame_checks.proofs.layout.filler_not_zero.Statement.{statement}
 use Rattle.frame_checks.proofs.layout.filler_not_zero.Tie as tie
@@ -27,7 +27,7 @@ add-i : tie.Need-add-i Inv-loop μ-loop
 add-i c = search needs
 
 loop-holds : tie.Need-loop-holds Inv-loop μ-loop
-loop-holds c = ap (λ (m : ℕ). zeroBytes (drop (m + 9) (c .before .before .args .field .now))) (sym (c .announced .ensures))
+loop-holds c = ap (λ (m : ℕ). zeroBytes (drop (m + overhead) (c .before .before .args .field .now))) (sym (c .announced .ensures))
 
 shared-slice-read-if1 : tie.Need-shared-slice-read-if1 Inv-loop μ-loop
 shared-slice-read-if1 c = search needs

@@ -1,12 +1,12 @@
 -- `frames::by_edition::make` meets its contract.
 -- Assumes nothing.
-use mathlib.Core.Path.{_≡_, refl, sym, ap, _∙_, subst}
+use mathlib.Core.Path.{_≡_, sym, ap, _∙_, subst}
 use mathlib.Core.List.{List}
-use Prim.Native.Nat.{ℕ, _+_, _-_, _≤_}
+use Prim.Native.Nat.{ℕ, _+_, _-_}
 use native.Mathlib.Omega.{arith}
 use borrow.Author.Needs.{needs}
-use lib.ListN.{length, set, length-set}
-use borrow.Rule.Slice.PartMut.{same-len-mid}
+use borrow.Rule.Slice.PartMut.{putMid, same-len-mid}
+use lib.ListN.{length, set}
 use Rattle.refusals.specs.Refusals.{among}
 use Rattle.refusals.specs.Outcome.{Outcome}
 use Rattle.checks.specs.Demand1.{Demand1}
@@ -16,7 +16,7 @@ use Rattle.frames.specs.Field.{frameAd, dataField}
 use Rattle.frames.specs.Calls.{makingRows, made}
 use Rattle.frames.specs.Demand2.{Making}
 use Rattle.frames.proofs.Demand2.{demand1-making, making}
-use Rattle.frames.proofs.Entry.{MakeChecked, make-failed, make-clear, make-holds, make-passed}
+use Rattle.frames.proofs.Entry.{set-room, part-kept, MakeChecked, make-failed, make-clear, make-holds, make-passed}
 use Rattle.frames.proofs.by_edition.make.Statement.{statement}
 use Rattle.frames.proofs.by_edition.make.Tie as tie
 
@@ -36,6 +36,20 @@ checked : (j : tie.After-judge-making) →
     let a = j .before .before .before .before .before .args in
     MakeChecked (a .key .now) (a .nonce .now) (a .identifier) (a .message .now) (a .out .now) (j .judge-making .result)
 checked j = record { checked = j .judge-making .ensures }
+
+-- What is written to the first byte.
+abbrev first : (told : tie.After-enum-told) → ℕ
+first told = length (told .before .before .before .before .before .before .before .args .message .now)
+
+-- The output with that byte and what sealing has written has its length.
+kept : (s : tie.After-seal) →
+    let told = s .before .before .before .before .before .before in
+    let a = told .before .before .before .before .before .before .before .args in
+    length (putMid 1 (length (a .message .now) + 9 - 1) (set (a .out .now) 0 (first told)) (s .seal .last .1 .1 .1 .1 .1 .0)) ≡ length (a .out .now)
+kept s =
+    let told = s .before .before .before .before .before .before in
+    let a = told .before .before .before .before .before .before .before .args in
+    part-kept (a .out .now) (first told) (length (a .message .now) + 9 - 1) (s .seal .last .1 .1 .1 .1 .1 .0) (s .seal .kept .1 .1 .1 .1 .1 .0)
 
 judge-making-requires : tie.Need-judge-making-requires
 judge-making-requires c κs = search needs
@@ -82,7 +96,7 @@ part-seal-end : tie.Need-part-seal-end
 part-seal-end c =
     let told = c .before .before .before .before in
     let j = checked (told .before .before) in
-    omega (arith, make-holds j (told .enum-told .given .1), make-clear j (told .enum-told .given .1) .fits, length-set (told .before .before .before .before .before .before .before .args .out .now) 0 (length (told .before .before .before .before .before .before .before .args .message .now)))
+    set-room (told .before .before .before .before .before .before .before .args .out .now) (first told) (omega (arith, make-holds j (told .enum-told .given .1), make-clear j (told .enum-told .given .1) .fits))
 
 seal-requires : tie.Need-seal-requires
 seal-requires c κs = search needs
@@ -104,16 +118,7 @@ part-spell-end c =
     let s = c .before .before in
     let f = s .before .before .before .before .before in
     let told = f .before in
-    let a = told .before .before .before .before .before .before .before .args in
-    let j = checked (told .before .before) in
-    let m = length (a .message .now) in
-    omega (
-      arith,
-      f .field-size .ensures,
-      make-clear j (told .enum-told .given .1) .fits,
-      same-len-mid 1 (m + 9 - 1) (set (a .out .now) 0 m) (s .seal .last .1 .1 .1 .1 .1 .0) (s .seal .kept .1 .1 .1 .1 .1 .0),
-      length-set (a .out .now) 0 m,
-    )
+    omega (arith, kept s, f .field-size .ensures, make-clear (checked (told .before .before)) (told .enum-told .given .1) .fits)
 
 spell-requires : tie.Need-spell-requires
 spell-requires c κs = search needs
@@ -129,10 +134,8 @@ same-length c =
     let w = c .before .before in
     let s = w .before .before .before .before in
     let f = s .before .before .before .before .before in
-    let a = f .before .before .before .before .before .before .before .before .args in
-    let m = length (a .message .now) in
-    same-len-mid (m + 9) (f .field-size .result - (m + 9)) _ (w .spell .last .1 .0) (w .spell .kept .1 .0)
-    ∙ same-len-mid 1 (m + 9 - 1) (set (a .out .now) 0 m) (s .seal .last .1 .1 .1 .1 .1 .0) (s .seal .kept .1 .1 .1 .1 .1 .0) ∙ length-set (a .out .now) 0 m
+    let end = length (f .before .before .before .before .before .before .before .before .args .message .now) + 9 in
+    same-len-mid end (f .field-size .result - end) _ (w .spell .last .1 .0) (w .spell .kept .1 .0) ∙ kept s
 
 returns-2 : tie.Need-returns-2
 returns-2 c =
