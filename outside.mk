@@ -44,7 +44,7 @@ $(OUT):
 	mkdir -p $@
 
 # The archive depends on the files that are proved and on their folders, so that a removed file counts too.
-VERIFIED := bits key lengths refusals preoutput strokes authenticator machine startup strings payload checks grain128aead named_edition capi
+VERIFIED := bits key lengths refusals length_codes preoutput strokes authenticator machine startup strings payload checks frame_checks grain128aead named_edition frames named_frames capi
 PROVED := $(shell find $(foreach crate,$(VERIFIED),$(wildcard $(addprefix crates/$(crate)/,src specs proofs))))
 
 build/libtikhoplav.a: crates.txt $(PROVED) | $(OUT)
@@ -57,16 +57,16 @@ SHARED := $(OUT)/libtikhoplav.rlib
 MODEL := $(OUT)/libmodel.rlib
 EXTERNS := --extern tikhoplav=$(SHARED) --extern model=$(MODEL)
 
-$(SHARED): cli/lib.rs cli/archive.rs cli/hex.rs cli/sizes.rs cli/vectors.rs build/libtikhoplav.a
+$(SHARED): cli/lib.rs cli/archive.rs cli/frames.rs cli/hex.rs cli/sizes.rs cli/vectors.rs build/libtikhoplav.a
 	$(RUST) --crate-type rlib --crate-name tikhoplav -L native=build -o $@ $<
 
 build/tikhoplav: cli/main.rs $(wildcard cli/*.rs) cli/help.txt include/tikhoplav.h $(SHARED)
 	TIKHOPLAV_VERSION=$(VERSION) $(RUST) -C strip=symbols --crate-name tool --extern tikhoplav=$(SHARED) -o $@ $<
 
-$(MODEL): tests/model.rs cli/sizes.rs | $(OUT)
+$(MODEL): tests/model.rs tests/model/frames.rs | $(OUT)
 	$(RUST) --crate-type rlib --crate-name model -o $@ $<
 
-$(OUT)/harness: tests/harness/main.rs $(wildcard tests/harness/*.rs) $(SHARED) $(MODEL)
+$(OUT)/harness: tests/harness/main.rs $(wildcard tests/harness/*.rs tests/harness/frames/*.rs) $(SHARED) $(MODEL)
 	$(RUST) --crate-name harness $(EXTERNS) -o $@ $<
 
 # What the bench times beside the calls.
@@ -77,30 +77,31 @@ $(OUT)/libprobes.a: crates.txt $(PROVED) $(shell find crates/probes -type f) | $
 $(OUT)/bench: bench/main.rs $(wildcard bench/*.rs) $(SHARED) $(MODEL) $(OUT)/libprobes.a
 	$(RUST) --crate-name bench $(EXTERNS) -L native=$(OUT) -o $@ $<
 
-# One C program: as C and as C++ with sanitizers, and without them for valgrind, which sees into the archive too.
+# Two C programs: as C and as C++ with sanitizers, and without them for valgrind, which sees into the archive too.
 WARNINGS := -Wall -Wextra -Wpedantic -Wshadow -Wconversion -Wsign-conversion -Wcast-qual -Wundef -Werror
 C99 := $(CC) -std=c99 $(WARNINGS) -Wstrict-prototypes -Wmissing-prototypes -Wc++-compat -Iinclude
 CXX11 := $(CXX) -std=c++11 $(WARNINGS) -Iinclude -x c++
 SANITIZE := -O1 -g -fsanitize=address,undefined -fno-sanitize-recover=all
-CALLS := $(addprefix $(OUT)/calls-,c c++ plain)
+PROGRAMS := calls frames
+TRIED := $(foreach program,$(PROGRAMS),$(addprefix $(OUT)/$(program)-,c c++ plain))
 
-$(CALLS): tests/calls.c include/tikhoplav.h build/libtikhoplav.a
+$(TRIED): tests/checks.h include/tikhoplav.h build/libtikhoplav.a
 
-# memcpy is bound before the first call, so that the dynamic linker takes no stack in it.
+# memcpy and memset are bound before the first call, so that the dynamic linker takes no stack in it.
 $(OUT)/stack: tests/stack.c include/tikhoplav.h build/libtikhoplav.a
 	$(C99) -Wl,-z,now $< build/libtikhoplav.a -o $@
 
-$(OUT)/calls-c:
+$(OUT)/%-c: tests/%.c
 	$(C99) $(SANITIZE) $< build/libtikhoplav.a -o $@
 
-$(OUT)/calls-c++:
+$(OUT)/%-c++: tests/%.c
 	$(CXX11) $(SANITIZE) $< -x none build/libtikhoplav.a -o $@
 
-$(OUT)/calls-plain:
+$(OUT)/%-plain: tests/%.c
 	$(C99) -g $< build/libtikhoplav.a -o $@
 
 # The model's comparisons take as long as all the others: they run beside them.
-outside-test: have-c++ outside-build $(CALLS) $(OUT)/stack $(OUT)/harness
+outside-test: have-c++ outside-build $(TRIED) $(OUT)/stack $(OUT)/harness
 	@$(MAKE) -s --no-print-directory -f outside.mk -j 2 -Otarget try-model try-calls
 
 try-model:
@@ -113,16 +114,18 @@ try-calls:
 	@$(CXX11) -fsyntax-only include/tikhoplav.h
 	@echo '== what the archive needs from elsewhere'
 	@needed=$$(nm --undefined-only --format=posix build/libtikhoplav.a | sed -n 's/ U.*//p') && echo $$needed && \
-	  [ "$$needed" = memcpy ] || { echo 'the header says memcpy' >&2; exit 1; }
+	  [ "$$(echo $$needed)" = 'memcpy memset' ] || { echo 'the header says memcpy and memset' >&2; exit 1; }
 	@echo '== the stack that the calls take'
 	@$(OUT)/stack
 	@echo '== the calls from C, with sanitizers'
-	@$(OUT)/calls-c
+	@for program in $(PROGRAMS); do $(OUT)/$$program-c || exit 1; done
 	@echo '== the calls from C++, with sanitizers'
-	@$(OUT)/calls-c++
+	@for program in $(PROGRAMS); do $(OUT)/$$program-c++ || exit 1; done
 	@echo '== the calls from C, under valgrind'
 	@if command -v valgrind >/dev/null; then \
-	  valgrind --quiet --error-exitcode=1 --leak-check=full $(OUT)/calls-plain; \
+	  for program in $(PROGRAMS); do \
+	    valgrind --quiet --error-exitcode=1 --leak-check=full $(OUT)/$$program-plain || exit 1; \
+	  done; \
 	else echo 'left out: valgrind is not on PATH'; fi
 	@echo '== the command-line tool'
 	@tests/tool.sh build/tikhoplav include/tikhoplav.h

@@ -1,6 +1,7 @@
 //! What the tool, the tests and the benchmark share.
 
 pub mod archive;
+pub mod frames;
 pub mod hex;
 pub mod sizes;
 pub mod vectors;

@@ -1,4 +1,4 @@
-//! Sizes in bytes, by the names that `include/tikhoplav.h` has for them.
+//! Sizes in bytes and limits, by the names that `include/tikhoplav.h` has for them.
 
 pub const KEY_SIZE: usize = 16;
 pub const NONCE_SIZE: usize = 12;
@@ -6,3 +6,7 @@ pub const TAG_SIZE: usize = 8;
 pub const AD_MAX: usize = 65535;
 pub const MESSAGE_MAX: usize = 61440;
 pub const SEALED_MAX: usize = MESSAGE_MAX + TAG_SIZE;
+pub const IDENTIFIER_MAX: u32 = 0x1fff_ffff;
+pub const FRAME_MESSAGE_MAX: usize = 55;
+pub const LENGTH_CODE_MAX: u32 = 15;
+pub const FRAME_MAX: usize = 64;

@@ -160,6 +160,55 @@ pub const SEALED: [Sealed; 9] = [
     ),
 ];
 
+/// The data field of a frame that seals counting bytes: key, nonce and message are each 00 01 02
+/// and so on. Its ciphertext and tag are what sealing gives with the AD of the frame.
+pub struct Framed {
+    pub identifier: u32,
+    pub message_len: usize,
+    /// In hex, of edition 1 and of edition 2.
+    pub fields: [&'static str; 2],
+}
+
+impl Framed {
+    /// The number of each edition, and its data field.
+    pub fn by_edition(&self) -> impl Iterator<Item = (u32, &'static str)> {
+        (1..).zip(self.fields)
+    }
+}
+
+pub const FRAMED: [Framed; 4] = [
+    Framed {
+        identifier: 0x123,
+        message_len: 0,
+        fields: ["0095a47115559ba805000000", "0089818c240de1b0ab000000"],
+    },
+    Framed {
+        identifier: 0x7ff,
+        message_len: 3,
+        fields: ["0338de8561163472d8919047", "038fb1337b3a1387ff6e38fc"],
+    },
+    Framed {
+        identifier: 0x18da_f110,
+        message_len: 40,
+        fields: [
+            "2838de8544f8858b73e768036dbb485f8d818b2a729561e66a84388a90597c9c\
+             8ec755f889b228416cd2ff1111c1ae6554000000000000000000000000000000",
+            "288fb13395d4baa2ad1cffb78bb834ef85869cbb6dab53d048ab5af0cc10eb43\
+             531ce8dc89ec16ea32021cdeaeb5a98d8f000000000000000000000000000000",
+        ],
+    },
+    Framed {
+        identifier: 0x1fff_ffff,
+        message_len: 55,
+        fields: [
+            "3738de8544f8858b73e768036dbb485f8d818b2a729561e66a84388a90597c9c\
+             8ec755f889b228416c12b61ed7656e1d3b14f0460ba82e89ad1d8c7ccf709b2b",
+            "378fb13395d4baa2ad1cffb78bb834ef85869cbb6dab53d048ab5af0cc10eb43\
+             531ce8dc89ec16ea32a57bd99188945820bc8074d0d997facb3c24f653c0e11c",
+        ],
+    },
+];
+
 /// The bytes 00 01 02 .., beginning again after ff.
 pub fn counting(count: usize) -> Vec<u8> {
     (0..count).map(|i| i as u8).collect()

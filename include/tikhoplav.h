@@ -1,5 +1,6 @@
 /*
- * Tikhoplav: Grain-128AEAD, both editions. Sealing and opening of whole byte strings; the two parts of a sealed one.
+ * Tikhoplav: Grain-128AEAD, both editions. Sealing and opening of whole byte strings; the two parts of a sealed one;
+ * sealed CAN FD frames, which have a section of their own below.
  *
  * Sealing enciphers a message under a key and a nonce, and appends a tag over the message and its associated data
  * (AD). Opening recomputes the tag, and hands out the message only if the tag is right. The AD is authenticated and
@@ -9,10 +10,11 @@
  *
  * The two editions
  *
- *   Edition 1 is Grain-128AEAD, edition 2 is Grain-128AEADv2. tikhoplav_seal_edition and tikhoplav_open_edition name
- *   the edition; tikhoplav_seal and tikhoplav_open mean edition 1. The two don't open one another: opening under the
- *   wrong edition is like opening under a wrong key, and answers TIKHOPLAV_REFUSED_TAG_DIFFERS (a tag of 64 bits can't
- *   exclude that it fits by chance). Nothing in a payload tells its edition: both sides have to agree on it beforehand.
+ *   Edition 1 is Grain-128AEAD, edition 2 is Grain-128AEADv2. A call whose name ends with _edition names the edition;
+ *   the call whose name lacks that ending means edition 1. The two editions don't open one another: opening under the
+ *   wrong one is like opening under a wrong key, and answers TIKHOPLAV_REFUSED_TAG_DIFFERS (a tag of 64 bits can't
+ *   exclude that it fits by chance). Nothing in a payload or a frame tells its edition: both sides have to agree on it
+ *   beforehand.
  *
  *   Which one a partner's box is likely to speak: edition 2, if it says Grain-128AEADv2, or was written after about
  *   2021; that is what the designers sent to the last round of NIST's lightweight cryptography project, and what their
@@ -36,33 +38,38 @@
  * What the archive needs
  *
  *   Link with -ltikhoplav. The code is for x86-64 and the System V calling convention (it uses the red zone and SSE2).
- *   The one symbol that it needs from elsewhere is memcpy. It allocates nothing. It has no global state, so calls may
- *   run at the same time in any number of threads, as long as nobody writes to a buffer that a running call reads, or
- *   touches one that it writes.
+ *   The symbols that it needs from elsewhere are memcpy and memset. It allocates nothing. It has no global state, so
+ *   calls may run at the same time in any number of threads, as long as nobody writes to a buffer that a running call
+ *   reads, or touches one that it writes.
  *
- *   A call takes at most 1792 bytes of stack below its caller's frame. This is measured, up to the largest lengths, and
- *   not proved: 1544 bytes, with the memcpy of the GNU C library. Where memcpy stands in a shared library and is bound
- *   at its first use, the dynamic linker takes stack of its own in that one call (about 3 KiB more on Linux).
+ *   A call takes at most 2048 bytes of stack below its caller's frame. This is measured, up to the largest lengths, and
+ *   not proved: 1544 bytes for sealing and opening, 1832 for making and reading a frame, with the memcpy and the memset
+ *   of the GNU C library. Where these stand in a shared library and are bound at their first use, the dynamic linker
+ *   takes stack of its own in those calls (about 3 KiB more on Linux).
  *
  * What the caller owes
  *
  *   - Each pointer leads to as many bytes as the length after it says: readable, and for `out` writable.
  *   - `out` overlaps none of the call's inputs. (The inputs are only read, and may overlap one another.)
  *   - A nonce is never used for two sealings under one key. If it is, secrecy is lost, and no call can notice it.
+ *     Making a frame is a sealing.
  *   - The key is random and secret. Of the keys that can be guessed the calls notice one, 16 zero bytes (the blank
  *     key), and refuse it.
  *
  *   A slice of length 0 may have any pointer, NULL included: nothing is read or written through it. So an empty AD is
- *   NULL, 0; an empty message is NULL, 0; and the output of opening an empty message may be NULL, 0.
+ *   NULL, 0; an empty message is NULL, 0; and the output of opening or reading an empty message may be NULL, 0.
  *
  * What a call answers
  *
- *   Sealing and opening: success is the count of bytes written, 0 or more. They stand at the front of `out`; every byte
- *   of `out` behind them is untouched. A refusal is one of the negative numbers below, and then every byte of `out` is
- *   as it was before the call. In particular a wrong tag hands out no bit of the message: nothing is written until the
- *   tag is known to be right.
+ *   Sealing and opening, making and reading a frame: success is the count of bytes written, 0 or more. They stand at
+ *   the front of `out`; every byte of `out` behind them is untouched. A refusal is one of the negative numbers below,
+ *   and then every byte of `out` is as it was before the call. In particular a wrong tag hands out no bit of the
+ *   message: nothing is written until the tag is known to be right.
  *
  *   tikhoplav_ciphertext_size: a length, 0 or more. It refuses nothing and writes nothing.
+ *
+ *   tikhoplav_coded_length and tikhoplav_length_code: a length and a length code, 0 or more, or one refusal. They write
+ *   nothing.
  *
  * The length of the AD, and payloads of earlier versions
  *
@@ -84,6 +91,9 @@
  *   TIKHOPLAV_REFUSED_TAG_DIFFERS.
  *
  *   Apart from these four, each version opens what another seals.
+ *
+ *   Versions before 3.3.0 have no frames. What stands in a frame between its first byte and its filler is a sealed
+ *   payload like any other: they open it with the AD of the frame, under an edition that they have.
  *
  * What is not promised
  *
@@ -118,7 +128,7 @@
 extern "C" {
 #endif
 
-#define TIKHOPLAV_VERSION "3.2.0"
+#define TIKHOPLAV_VERSION "3.3.0"
 
 /* The editions: Grain-128AEAD and Grain-128AEADv2. */
 #define TIKHOPLAV_EDITION_1 1
@@ -139,7 +149,8 @@ extern "C" {
  * Refusals of sealing and opening. The checks run in this order, which is not that of the numbers, and the first that
  * applies is the answer: a call with a short key and a long nonce answers -1, one with a blank key and too long an AD
  * answers -15, and an output that is too short answers -6 even where the tag is wrong too. An unknown edition answers
- * -23 whatever else is wrong.
+ * -23 whatever else is wrong. Making and reading a frame have some of these too, and five of their own: the section on
+ * frames has theirs, in the order of their checks.
  */
 
 /* The calls that name an edition only: it is neither TIKHOPLAV_EDITION_1 nor TIKHOPLAV_EDITION_2. */
@@ -152,8 +163,8 @@ extern "C" {
 #define TIKHOPLAV_REFUSED_NONCE_SIZE (-2)
 
 /* The key is blank: all of its 16 bytes are zero, as in a buffer that no key was ever copied to. What to do: for
-   sealing draw a random key, for opening take the key that was used to seal. (Zeros of another length are
-   TIKHOPLAV_REFUSED_KEY_SIZE.) */
+   sealing and making draw a random key, for opening and reading take the key that was used to seal. (Zeros of another
+   length are TIKHOPLAV_REFUSED_KEY_SIZE.) */
 #define TIKHOPLAV_REFUSED_BLANK_KEY (-15)
 
 /* ad_len is over TIKHOPLAV_AD_MAX. */
@@ -166,12 +177,13 @@ extern "C" {
 #define TIKHOPLAV_REFUSED_SEALED_TOO_SHORT (-5)
 
 /* Sealing: out_len is under message_len + TIKHOPLAV_TAG_SIZE. Opening: out_len is under sealed_len -
-   TIKHOPLAV_TAG_SIZE. */
+   TIKHOPLAV_TAG_SIZE. Making a frame: out_len is under the length of the whole data field. Reading: out_len is under
+   the message length that the data field has. */
 #define TIKHOPLAV_REFUSED_OUTPUT_TOO_SHORT (-6)
 
-/* Opening only: the tag is not the one that key, nonce, AD and ciphertext give under the edition. Any of the four, or
-   the tag, differs from what was sealed, or it was sealed under the other edition, or a version before 2.0.0 sealed it
-   with an AD of 128 to 255 bytes; which cannot be told. */
+/* Opening and reading only: the tag is not the one that key, nonce, AD and ciphertext give under the edition. Any of
+   the four, or the tag, differs from what was sealed, or it was sealed under the other edition, or a version before
+   2.0.0 sealed it with an AD of 128 to 255 bytes; which cannot be told. */
 #define TIKHOPLAV_REFUSED_TAG_DIFFERS (-7)
 
 /*
@@ -246,6 +258,192 @@ int64_t tikhoplav_open_edition(uint32_t edition, const uint8_t *key, size_t key_
  * SEALED_TOO_SHORT unless an earlier check applies.
  */
 int64_t tikhoplav_ciphertext_size(const uint8_t *sealed, size_t sealed_len);
+
+/*
+ * Sealed CAN FD frames
+ *
+ *   The length codes of CAN FD (DLC), and the bytes of the data field that each means (ISO 11898-1):
+ *
+ *     code     0   1   2   3   4   5   6   7   8   9  10  11  12  13  14  15
+ *     bytes    0   1   2   3   4   5   6   7   8  12  16  20  24  32  48  64
+ *
+ * The data field of a sealed frame
+ *
+ *     from place   bytes       what
+ *     0            1           M, the length of the message: 0 to 55
+ *     1            M           the ciphertext
+ *     M + 1        8           the tag
+ *     M + 9        the rest    filler: zeros, up to the smallest of the lengths above that holds M + 9
+ *
+ *     M                         0 to 3   4 to 7   8 to 11   12 to 15   16 to 23   24 to 39   40 to 55
+ *     code of the data field         9       10        11         12         13         14         15
+ *     bytes of the data field       12       16        20         24         32         48         64
+ *
+ *   Ciphertext and tag are what sealing gives for the message and an AD of 5 bytes: the identifier in four bytes, high
+ *   byte first, then the length code of the data field in one. So the AD of a message of 9 bytes under identifier 0x7e8
+ *   is 00 00 07 e8 0b.
+ *
+ *   The tag is over neither M nor the filler. Reading refuses filler that is not all zeros, and an M for which the code
+ *   is not the smallest. Any other M that is not the true one marks other bytes as ciphertext and as tag, and the tag
+ *   decides.
+ *
+ * What making and reading refuse
+ *
+ *   The checks run in this order, and the first that applies is the answer.
+ *
+ *     making                      reading
+ *     UNKNOWN_EDITION        -23  UNKNOWN_EDITION        -23  only in the calls that name an edition
+ *     KEY_SIZE                -1  KEY_SIZE                -1
+ *     NONCE_SIZE              -2  NONCE_SIZE              -2
+ *     BLANK_KEY              -15  BLANK_KEY              -15
+ *     IDENTIFIER_TOO_LARGE    -8  IDENTIFIER_TOO_LARGE    -8
+ *     FRAME_MESSAGE_TOO_LONG  -9
+ *                                 NOT_CODED_LENGTH       -10
+ *                                 WRONG_MESSAGE_LENGTH   -11
+ *                                 FILLER_NOT_ZERO        -12
+ *     OUTPUT_TOO_SHORT        -6  OUTPUT_TOO_SHORT        -6
+ *                                 TAG_DIFFERS             -7
+ *
+ * What the caller owes for frames
+ *
+ *   - All that is owed for sealing and opening. A nonce is never used for two frames under one key, nor for a frame and
+ *     another sealing, whatever the identifiers and editions are and however many senders share the key.
+ *   - The nonce is no part of the frame, and neither is the edition. How sender and reader agree on them is theirs.
+ *   - Nothing in a frame tells whether it is new. A reader that takes a nonce again takes an old frame again.
+ *
+ * Sending and receiving
+ *
+ *   What making answers is the count of bytes of the data field. The frame goes out with the identifier that making was
+ *   given, the code tikhoplav_length_code(count), and these bytes. An output of TIKHOPLAV_FRAME_MAX bytes is always
+ *   long enough.
+ *
+ *   Reading takes identifier, code and data field as they came in. If a driver tells the length in place of the code,
+ *   the code is tikhoplav_length_code(length); if it tells the code alone, the length is tikhoplav_coded_length(code).
+ *   An output of TIKHOPLAV_FRAME_MESSAGE_MAX bytes is always long enough.
+ *
+ *   An identifier is taken as a number: a base one (11 bits) and an extended one (29 bits) of the same number have the
+ *   same AD. A data field of a code below 9 can't be a sealed one: without a message it has 9 bytes already.
+ *
+ * A whole program that makes and reads a frame (a real key is random and secret)
+ *
+ *     #include <stdio.h>
+ *     #include <tikhoplav.h>
+ *
+ *     int main(void)
+ *     {
+ *         static const uint8_t key[TIKHOPLAV_KEY_SIZE] = "no real key", nonce[TIKHOPLAV_NONCE_SIZE] = "never twice";
+ *         static const uint8_t message[] = "2400 rpm";
+ *         const uint32_t identifier = 0x7e8;
+ *         uint8_t data[TIKHOPLAV_FRAME_MAX], out[TIKHOPLAV_FRAME_MESSAGE_MAX];
+ *         uint32_t code;
+ *         int64_t n = tikhoplav_frame_make(key, sizeof key, nonce, sizeof nonce, identifier,
+ *                                          message, sizeof message, data, sizeof data);
+ *         if (n < 0)
+ *             return (int)-n;
+ *         code = (uint32_t)tikhoplav_length_code((size_t)n);
+ *         // Identifier, code and n bytes of data go over the bus.
+ *         n = tikhoplav_frame_read(key, sizeof key, nonce, sizeof nonce, identifier, code,
+ *                                  data, (size_t)n, out, sizeof out);
+ *         return n < 0 ? (int)-n : puts((const char *)out) == EOF;
+ *     }
+ */
+
+/* The largest identifier, the longest message of a frame, the largest length code and the longest data field; the
+   lengths in bytes. */
+#define TIKHOPLAV_IDENTIFIER_MAX 0x1fffffff
+#define TIKHOPLAV_FRAME_MESSAGE_MAX 55
+#define TIKHOPLAV_LENGTH_CODE_MAX 15
+#define TIKHOPLAV_FRAME_MAX 64
+
+/* identifier is over TIKHOPLAV_IDENTIFIER_MAX: it has more than 29 bits. */
+#define TIKHOPLAV_REFUSED_IDENTIFIER_TOO_LARGE (-8)
+
+/* Making only: message_len is over TIKHOPLAV_FRAME_MESSAGE_MAX. */
+#define TIKHOPLAV_REFUSED_FRAME_MESSAGE_TOO_LONG (-9)
+
+/* Reading: code is over TIKHOPLAV_LENGTH_CODE_MAX, or data_len is not the length that it means. The calls on length
+   codes: code is over TIKHOPLAV_LENGTH_CODE_MAX, or length is over TIKHOPLAV_FRAME_MAX. */
+#define TIKHOPLAV_REFUSED_NOT_CODED_LENGTH (-10)
+
+/* Reading only: data_len is 0, so that there is no M; or M is over TIKHOPLAV_FRAME_MESSAGE_MAX; or code is not the
+   smallest whose length holds M + 9. */
+#define TIKHOPLAV_REFUSED_WRONG_MESSAGE_LENGTH (-11)
+
+/* Reading only: a byte of the filler is not zero. */
+#define TIKHOPLAV_REFUSED_FILLER_NOT_ZERO (-12)
+
+/*
+ * Makes the data field of a frame with this identifier, for message[0 .. message_len - 1].
+ *
+ * Writes the whole data field, filler and all, to the front of `out`, and answers its length: 12, 16, 20, 24, 32, 48 or
+ * 64, the smallest that holds message_len + 9. Whenever the sizes are legal, the key is not blank, the identifier is at
+ * most TIKHOPLAV_IDENTIFIER_MAX and out_len is at least that length, it succeeds.
+ *
+ * Otherwise it answers the first of these that applies, and writes nothing:
+ * KEY_SIZE, NONCE_SIZE, BLANK_KEY, IDENTIFIER_TOO_LARGE, FRAME_MESSAGE_TOO_LONG, OUTPUT_TOO_SHORT.
+ */
+int64_t tikhoplav_frame_make(const uint8_t *key, size_t key_len, const uint8_t *nonce, size_t nonce_len,
+                             uint32_t identifier, const uint8_t *message, size_t message_len,
+                             uint8_t *out, size_t out_len);
+
+/*
+ * Reads data[0 .. data_len - 1], the data field of a frame with this identifier and this length code.
+ *
+ * If it is such a field and the tag is right, writes the message to out[0 .. M - 1] and answers M, which is 0 for an
+ * empty message. M is data[0].
+ *
+ * Otherwise it answers the first of these that applies, and writes nothing:
+ * KEY_SIZE, NONCE_SIZE, BLANK_KEY, IDENTIFIER_TOO_LARGE, NOT_CODED_LENGTH, WRONG_MESSAGE_LENGTH, FILLER_NOT_ZERO,
+ * OUTPUT_TOO_SHORT, TAG_DIFFERS.
+ */
+int64_t tikhoplav_frame_read(const uint8_t *key, size_t key_len, const uint8_t *nonce, size_t nonce_len,
+                             uint32_t identifier, uint32_t code, const uint8_t *data, size_t data_len,
+                             uint8_t *out, size_t out_len);
+
+/*
+ * Makes the data field of a frame with this identifier, for message[0 .. message_len - 1], under an edition,
+ * TIKHOPLAV_EDITION_1 or TIKHOPLAV_EDITION_2. With TIKHOPLAV_EDITION_1 it is tikhoplav_frame_make.
+ *
+ * Writes the whole data field, filler and all, to the front of `out`, and answers its length: 12, 16, 20, 24, 32, 48 or
+ * 64, the smallest that holds message_len + 9. Whenever the edition is one of the two, the sizes are legal, the key is
+ * not blank, the identifier is at most TIKHOPLAV_IDENTIFIER_MAX and out_len is at least that length, it succeeds.
+ *
+ * Otherwise it answers the first of these that applies, and writes nothing:
+ * UNKNOWN_EDITION, KEY_SIZE, NONCE_SIZE, BLANK_KEY, IDENTIFIER_TOO_LARGE, FRAME_MESSAGE_TOO_LONG, OUTPUT_TOO_SHORT.
+ */
+int64_t tikhoplav_frame_make_edition(uint32_t edition, const uint8_t *key, size_t key_len,
+                                     const uint8_t *nonce, size_t nonce_len, uint32_t identifier,
+                                     const uint8_t *message, size_t message_len, uint8_t *out, size_t out_len);
+
+/*
+ * Reads data[0 .. data_len - 1], the data field of a frame with this identifier and this length code, under an edition,
+ * TIKHOPLAV_EDITION_1 or TIKHOPLAV_EDITION_2. With TIKHOPLAV_EDITION_1 it is tikhoplav_frame_read.
+ *
+ * If it is such a field and the tag is right under that edition, writes the message to out[0 .. M - 1] and answers M,
+ * which is 0 for an empty message. M is data[0].
+ *
+ * Otherwise it answers the first of these that applies, and writes nothing:
+ * UNKNOWN_EDITION, KEY_SIZE, NONCE_SIZE, BLANK_KEY, IDENTIFIER_TOO_LARGE, NOT_CODED_LENGTH, WRONG_MESSAGE_LENGTH,
+ * FILLER_NOT_ZERO, OUTPUT_TOO_SHORT, TAG_DIFFERS.
+ */
+int64_t tikhoplav_frame_read_edition(uint32_t edition, const uint8_t *key, size_t key_len,
+                                     const uint8_t *nonce, size_t nonce_len, uint32_t identifier, uint32_t code,
+                                     const uint8_t *data, size_t data_len, uint8_t *out, size_t out_len);
+
+/*
+ * The bytes that a length code means, 0 to TIKHOPLAV_FRAME_MAX.
+ *
+ * Answers NOT_CODED_LENGTH if code is over TIKHOPLAV_LENGTH_CODE_MAX.
+ */
+int64_t tikhoplav_coded_length(uint32_t code);
+
+/*
+ * The smallest length code that holds so many bytes, 0 to TIKHOPLAV_LENGTH_CODE_MAX. What it means may be more than
+ * length; it is length exactly where length stands in the table above.
+ *
+ * Answers NOT_CODED_LENGTH if length is over TIKHOPLAV_FRAME_MAX, which no code holds.
+ */
+int64_t tikhoplav_length_code(size_t length);
 
 #ifdef __cplusplus
 }

@@ -1,5 +1,5 @@
 #!/usr/bin/env bash
-# What `make install` has put below a prefix is enough to build and run the header's example.
+# What `make install` has put below a prefix is enough to build and run the header's examples.
 # Usage: tests/installed.sh PREFIX VERSION CC
 set -eu
 prefix=$1 version=$2 cc=$3
@@ -19,9 +19,14 @@ if command -v pkg-config >/dev/null; then
   read -ra flags <<<"$(pkg-config --cflags --libs tikhoplav)"
 fi
 
-sed -n '/^ \* Example/,/^ \*\//s/^ \*     //p' "$prefix/include/tikhoplav.h" >"$scratch/example.c"
-"$cc" -std=c99 -Wall -Wextra -Wpedantic -Werror "$scratch/example.c" "${flags[@]}" -o "$scratch/example"
-shown=$("$scratch/example")
-[ "$shown" = "2400 rpm" ] || fail "the header's example prints '$shown', not '2400 rpm'"
+example() { # HEADING: the program that stands below it in the header builds and runs
+  sed -n "/^ \* $1/,/^ \*\//s/^ \*     //p" "$prefix/include/tikhoplav.h" >"$scratch/example.c"
+  "$cc" -std=c99 -Wall -Wextra -Wpedantic -Werror "$scratch/example.c" "${flags[@]}" -o "$scratch/example"
+  shown=$("$scratch/example")
+  [ "$shown" = "2400 rpm" ] || fail "the header's program below '$1' prints '$shown', not '2400 rpm'"
+}
+
+example 'Example: a whole program'
+example 'A whole program that makes and reads a frame'
 "$prefix/bin/tikhoplav" selftest >"$scratch/selftest" || fail "the installed tool fails its selftest"
-echo "the header's example builds and runs, and the tool passes its selftest"
+echo "the header's examples build and run, and the tool passes its selftest"

@@ -1,10 +1,15 @@
 //! An independent implementation of documents 01 and 02, of both editions: a byte for each register
 //! bit, and every bit moved at every clock.
 
-#[path = "../cli/sizes.rs"]
-mod sizes;
+#[path = "model/frames.rs"]
+pub mod frames;
 
-use sizes::{AD_MAX, KEY_SIZE, MESSAGE_MAX, NONCE_SIZE, SEALED_MAX, TAG_SIZE};
+const KEY_SIZE: usize = 16;
+const NONCE_SIZE: usize = 12;
+const TAG_SIZE: usize = 8;
+const AD_MAX: usize = 65535;
+const MESSAGE_MAX: usize = 61440;
+const SEALED_MAX: usize = MESSAGE_MAX + TAG_SIZE;
 
 type Places = [u8; 128];
 

@@ -3,7 +3,9 @@
 mod ad_lengths;
 mod damage;
 mod editions;
+mod equations;
 mod flips;
+mod frames;
 mod judge;
 mod keys;
 mod order;
@@ -84,10 +86,11 @@ fn main() -> ExitCode {
 
 /// Counts the comparisons of all groups.
 fn run(seed: u64) -> Result<usize, String> {
-    let mut total = run_groups(&ONCE, 1, seed)?;
+    let mut total = run_groups(&ONCE, 1, seed)? + run_groups(&frames::ONCE, 1, seed)?;
     for edition in [1, 2] {
         println!("edition {edition}");
         total += run_groups(&OF_EACH_EDITION, edition, seed)?;
+        total += run_groups(&frames::OF_EACH_EDITION, edition, seed)?;
     }
     Ok(total)
 }

@@ -3,6 +3,7 @@
 //! with zeros. Opening accepts one pair's tag under the other's AD and ciphertext exactly when that
 //! sum is zero.
 
+use crate::equations::{ones, solve};
 use crate::judge::{Judge, Verdict};
 use crate::registers;
 use crate::trial::Trial;
@@ -95,7 +96,9 @@ fn collide(judge: &mut Judge, first: &Trial, mut second: Trial) -> Verdict {
     let begin = judge.random.below(bytes - CHOSEN + 1);
     let position = 8 * (model::coded_length(second.ad.len()).len() + begin);
     let contents = registers::contents(first, position + 8 * CHOSEN);
-    let solved = solve(&contents[position..], sum_of_registers(first, &second));
+    let chosen = contents[position..].iter().copied();
+    let vectors: Vec<u128> = chosen.map(u128::from).collect();
+    let solved = solve(&vectors, sum_of_registers(first, &second).into());
     judge.holds("the 64 equations have a solution", solved.is_some())?;
     for bit in ones(solved.unwrap_or(0)) {
         flip(&mut second, 8 * begin + bit);
@@ -155,32 +158,4 @@ fn flip(sealing: &mut Trial, bit: usize) {
         None => sealing.ad[byte] ^= mask,
         Some(byte) => sealing.data[byte] ^= mask,
     }
-}
-
-/// Which of the vectors add up to the sum: bit j is for vector j.
-fn solve(vectors: &[u64], sum: u64) -> Option<u128> {
-    let mut basis = [(0, 0); 64];
-    for (j, &vector) in vectors.iter().enumerate() {
-        let (rest, from) = reduce(&basis, vector, 1 << j);
-        if rest != 0 {
-            basis[rest.ilog2() as usize] = (rest, from);
-        }
-    }
-    let (rest, from) = reduce(&basis, sum, 0);
-    (rest == 0).then_some(from)
-}
-
-/// Adds vectors of the basis, each kept at the place of its top bit, until none fits.
-fn reduce(basis: &[(u64, u128); 64], mut vector: u64, mut from: u128) -> (u64, u128) {
-    for (place, &(other, others)) in basis.iter().enumerate().rev() {
-        if other != 0 && vector >> place & 1 == 1 {
-            vector ^= other;
-            from ^= others;
-        }
-    }
-    (vector, from)
-}
-
-fn ones(set: u128) -> impl Iterator<Item = usize> {
-    (0..128).filter(move |j| set >> j & 1 == 1)
 }
