@@ -6,11 +6,26 @@ use crate::options::Options;
 use crate::streams;
 use tikhoplav::hex;
 
-/// What `seal` and `open` are given.
-pub struct Inputs {
+/// The cipher as it is asked for.
+pub struct Cipher {
     pub edition: Edition,
     pub key: Vec<u8>,
     pub nonce: Vec<u8>,
+}
+
+impl Cipher {
+    pub fn read(options: &Options) -> Result<Cipher, Failure> {
+        Ok(Cipher {
+            edition: Edition::read(options)?,
+            key: required(options, "--key", "--key-file")?,
+            nonce: required(options, "--nonce", "--nonce-file")?,
+        })
+    }
+}
+
+/// What `seal` and `open` are given.
+pub struct Inputs {
+    pub cipher: Cipher,
     pub ad: Vec<u8>,
     pub data: Vec<u8>,
 }
@@ -18,9 +33,7 @@ pub struct Inputs {
 impl Inputs {
     pub fn read(options: &Options) -> Result<Inputs, Failure> {
         Ok(Inputs {
-            edition: Edition::read(options)?,
-            key: required(options, "--key", "--key-file")?,
-            nonce: required(options, "--nonce", "--nonce-file")?,
+            cipher: Cipher::read(options)?,
             ad: either(options, "--ad", "--ad-file")?.unwrap_or_default(),
             data: data(options)?,
         })

@@ -12,7 +12,7 @@ pub struct Job {
 }
 
 /// An output as it is lent to a call.
-fn lent(room: usize) -> Vec<u8> {
+pub fn lent(room: usize) -> Vec<u8> {
     vec![0xa5; room]
 }
 

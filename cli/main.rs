@@ -1,11 +1,17 @@
 //! The lab's command-line tool over the archive.
 
+mod candump;
 mod crypt;
 mod edition;
 mod failure;
+mod frame;
+mod frame_checks;
+mod frame_job;
 mod inputs;
 mod job;
+mod notation;
 mod options;
+mod output;
 mod parts;
 mod refusal;
 mod selftest;
@@ -16,7 +22,7 @@ use options::{Known, Options};
 use std::ffi::OsString;
 use std::process::ExitCode;
 use tikhoplav::archive::Call;
-use tikhoplav::sizes::{AD_MAX, MESSAGE_MAX, SEALED_MAX};
+use tikhoplav::sizes::{AD_MAX, FRAME_MESSAGE_MAX, IDENTIFIER_MAX, MESSAGE_MAX, SEALED_MAX};
 
 const VERSION: &str = concat!("tikhoplav ", env!("TIKHOPLAV_VERSION"), "\n");
 
@@ -26,7 +32,9 @@ fn help() -> String {
         include_str!("help.txt"),
         AD_MAX = AD_MAX,
         MESSAGE_MAX = MESSAGE_MAX,
-        SEALED_MAX = SEALED_MAX
+        SEALED_MAX = SEALED_MAX,
+        IDENTIFIER_MAX = IDENTIFIER_MAX,
+        FRAME_MESSAGE_MAX = FRAME_MESSAGE_MAX
     )
 }
 
@@ -48,12 +56,28 @@ fn run(arguments: &[OsString]) -> Result<(), Failure> {
     match command.to_str() {
         Some("seal") => with_options(&options::SEAL_AND_OPEN, rest, |o| crypt::run(Call::Seal, o)),
         Some("open") => with_options(&options::SEAL_AND_OPEN, rest, |o| crypt::run(Call::Open, o)),
+        Some("frame") => frame(rest),
         Some("parts") => with_options(&options::PARTS, rest, parts::run),
         Some("selftest") => alone(rest).and_then(|()| selftest::run()),
         Some("--help" | "-h" | "help") => streams::write_stdout(help().as_bytes()),
         Some("--version" | "-V") => streams::write_stdout(VERSION.as_bytes()),
         _ => Err(Failure::Usage(format!(
             "unknown command '{}'",
+            command.display()
+        ))),
+    }
+}
+
+fn frame(arguments: &[OsString]) -> Result<(), Failure> {
+    let Some((command, rest)) = arguments.split_first() else {
+        return Err(Failure::Usage("frame: make or read is needed".to_string()));
+    };
+    match command.to_str() {
+        Some("make") => with_options(&options::FRAME_MAKE, rest, frame::make),
+        Some("read") => with_options(&options::FRAME_READ, rest, frame::read),
+        Some("--help") => streams::write_stdout(help().as_bytes()),
+        _ => Err(Failure::Usage(format!(
+            "unknown command 'frame {}'",
             command.display()
         ))),
     }

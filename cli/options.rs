@@ -7,27 +7,35 @@ use std::os::unix::ffi::OsStrExt;
 
 /// The options that a command knows.
 pub struct Known {
-    with_value: &'static [&'static str],
+    with_value: &'static [&'static [&'static str]],
     alone: &'static [&'static str],
 }
 
+const CIPHER: &[&str] = &[
+    "--edition",
+    "--key",
+    "--key-file",
+    "--nonce",
+    "--nonce-file",
+];
+
 pub const SEAL_AND_OPEN: Known = Known {
-    with_value: &[
-        "--edition",
-        "--key",
-        "--key-file",
-        "--nonce",
-        "--nonce-file",
-        "--ad",
-        "--ad-file",
-        "--in",
-        "--out",
-    ],
+    with_value: &[CIPHER, &["--ad", "--ad-file", "--in", "--out"]],
     alone: &["--hex-in", "--hex-out", "--help"],
 };
 
+pub const FRAME_MAKE: Known = Known {
+    with_value: &[CIPHER, &["--id", "--flags", "--in", "--out"]],
+    alone: &["--hex-in", "--help"],
+};
+
+pub const FRAME_READ: Known = Known {
+    with_value: &[CIPHER, &["--in", "--out"]],
+    alone: &["--hex-out", "--help"],
+};
+
 pub const PARTS: Known = Known {
-    with_value: &["--in"],
+    with_value: &[&["--in"]],
     alone: &["--hex-in", "--help"],
 };
 
@@ -49,7 +57,7 @@ impl Options {
                     return usage(format!("{switch} takes no value"));
                 }
                 options.switches.insert(switch)
-            } else if let Some(option) = find(known.with_value, name) {
+            } else if let Some(option) = known.with_value.iter().find_map(|some| find(some, name)) {
                 let value = attached.or_else(|| rest.next().map(OsString::as_os_str));
                 let value = present(option, value, attached.is_some())?;
                 options.values.insert(option, value.to_owned()).is_none()

@@ -1,11 +1,17 @@
 //! A refusal in words.
 
-use crate::inputs::Inputs;
+use crate::inputs::{Cipher, Inputs};
+use crate::notation::{Frame, Identifier};
 use tikhoplav::archive::Call;
-use tikhoplav::sizes::{AD_MAX, KEY_SIZE, MESSAGE_MAX, NONCE_SIZE, SEALED_MAX, TAG_SIZE};
+use tikhoplav::frames;
+use tikhoplav::sizes::{AD_MAX, FRAME_MESSAGE_MAX, IDENTIFIER_MAX, KEY_SIZE};
+use tikhoplav::sizes::{MESSAGE_MAX, NONCE_SIZE, SEALED_MAX, TAG_SIZE};
 
 const WRONG_TAG: &str = "the tag is wrong: the key, the nonce, the associated data or the sealed \
     input is not as it was sealed";
+
+const WRONG_TAG_OF_FRAME: &str = "the tag is wrong: the key, the nonce, the identifier, the \
+    length code or the data field is not as it was sealed";
 
 /// Zeros where a key should be, as a key that was never set.
 const BLANK_KEY: &str = "the key is 16 zero bytes, which anybody can guess";
@@ -16,21 +22,21 @@ const MAKE_A_KEY: &str = "seal with a random one ('head -c 16 /dev/urandom >lab.
 const TRUE_KEY: &str = "open with the key that it was sealed with; what was sealed with \
     zeros opens with the version that sealed it, one before 3.0.0";
 
+const TRUE_KEY_OF_FRAME: &str = "read the frame with the key that it was sealed with";
+
 /// Such versions coded an AD length of 128 to 255 in another way.
 const SEALED_BEFORE: &str =
     "a version before 2.0.0 sealed it: what those sealed with associated data \
     of 128 to 255 bytes no longer opens";
 
-/// What is wrong with the inputs, where the archive refused them with this number.
+/// What is wrong with the inputs of `seal` or `open`, where the archive refused them with this
+/// number.
 pub fn sentence(call: Call, inputs: &Inputs, number: u8) -> String {
-    let (data, limit) = match call {
-        Call::Seal => ("message", MESSAGE_MAX),
-        Call::Open => ("sealed input", SEALED_MAX),
+    let (data, limit, key) = match call {
+        Call::Seal => ("message", MESSAGE_MAX, MAKE_A_KEY),
+        Call::Open => ("sealed input", SEALED_MAX, TRUE_KEY),
     };
-    let is = |what: &str, bytes: &[u8]| format!("the {what} is {}", count(bytes.len()));
     match number {
-        1 => format!("{}, and must be {KEY_SIZE}", is("key", &inputs.key)),
-        2 => format!("{}, and must be {NONCE_SIZE}", is("nonce", &inputs.nonce)),
         3 => format!(
             "{}, and may be at most {AD_MAX}",
             is("associated data", &inputs.ad)
@@ -40,26 +46,97 @@ pub fn sentence(call: Call, inputs: &Inputs, number: u8) -> String {
             "{}, and its tag alone is {TAG_SIZE}",
             is(data, &inputs.data)
         ),
-        6 => "the output is too short".to_string(),
         7 => wrong_tag(inputs),
-        15 => match call {
-            Call::Seal => format!("{BLANK_KEY}: {MAKE_A_KEY}"),
-            Call::Open => format!("{BLANK_KEY}: {TRUE_KEY}"),
-        },
-        23 => format!("the edition is {}, and must be 1 or 2", inputs.edition),
-        _ => unreachable!("the header names no refusal {number}"),
+        _ => of_any(&inputs.cipher, key, number),
+    }
+}
+
+/// What is wrong with the inputs of `frame make`.
+pub fn of_making(cipher: &Cipher, identifier: &Identifier, message: &[u8], number: u8) -> String {
+    match number {
+        8 => too_large(identifier),
+        9 => format!(
+            "{}, and a frame holds at most {FRAME_MESSAGE_MAX}",
+            is("message", message)
+        ),
+        _ => of_any(cipher, MAKE_A_KEY, number),
+    }
+}
+
+/// What is wrong with the inputs of `frame read`.
+pub fn of_reading(cipher: &Cipher, frame: &Frame, number: u8) -> String {
+    match number {
+        7 => format!("{WRONG_TAG_OF_FRAME}{}", or_other_edition(cipher)),
+        8 => too_large(&frame.identifier),
+        10 => format!(
+            "{} are no coded length of CAN FD (0 to 8, 12, 16, 20, 24, 32, 48 or 64)",
+            count(frame.data.len())
+        ),
+        11 => wrong_message_length(&frame.data),
+        12 => filler_not_zero(&frame.data),
+        _ => of_any(cipher, TRUE_KEY_OF_FRAME, number),
+    }
+}
+
+/// The refusals that all calls share. `key` says what to do about a blank one.
+fn of_any(cipher: &Cipher, key: &str, number: u8) -> String {
+    match number {
+        1 => format!("{}, and must be {KEY_SIZE}", is("key", &cipher.key)),
+        2 => format!("{}, and must be {NONCE_SIZE}", is("nonce", &cipher.nonce)),
+        6 => "the output is too short".to_string(),
+        15 => format!("{BLANK_KEY}: {key}"),
+        23 => format!("the edition is {}, and must be 1 or 2", cipher.edition),
+        _ => unreachable!("the header names no such refusal {number}"),
     }
 }
 
 /// The versions before 2.0.0 have edition 1 alone.
 fn wrong_tag(inputs: &Inputs) -> String {
-    let tried = inputs.edition.number();
-    let other = if tried == 1 { 2 } else { 1 };
-    let before = match (tried, inputs.ad.len()) {
+    let before = match (inputs.cipher.edition.number(), inputs.ad.len()) {
         (1, 128..=255) => format!(", or {SEALED_BEFORE}"),
         _ => String::new(),
     };
-    format!("{WRONG_TAG}{before}, or it was sealed under edition {other} (--edition {other})")
+    format!("{WRONG_TAG}{before}{}", or_other_edition(&inputs.cipher))
+}
+
+fn or_other_edition(cipher: &Cipher) -> String {
+    let other = if cipher.edition.number() == 1 { 2 } else { 1 };
+    format!(", or it was sealed under edition {other} (--edition {other})")
+}
+
+fn too_large(identifier: &Identifier) -> String {
+    format!("the identifier is {identifier}, and may be at most {IDENTIFIER_MAX:X}")
+}
+
+fn wrong_message_length(data: &[u8]) -> String {
+    let Some(&said) = data.first() else {
+        return "the data field is empty, and has no length byte".to_string();
+    };
+    let says = format!("the length byte says {said}");
+    if usize::from(said) > FRAME_MESSAGE_MAX {
+        return format!("{says}, and a frame holds at most {FRAME_MESSAGE_MAX}");
+    }
+    let code = frames::length_code(1 + usize::from(said) + TAG_SIZE);
+    let takes = frames::coded_length(code as u32);
+    format!(
+        "{says}, which takes {takes} bytes, and {}",
+        is("data field", data)
+    )
+}
+
+/// Places count from 1.
+fn filler_not_zero(data: &[u8]) -> String {
+    let message_len = usize::from(data[0]);
+    let mut filler = data.iter().zip(1..).skip(1 + message_len + TAG_SIZE);
+    let (byte, place) = filler
+        .find(|(&byte, _)| byte != 0)
+        .expect("a filler byte is not zero");
+    format!("byte {place} of the data field is {byte:02X}, and filler must be 00")
+}
+
+/// The size of an input in words.
+fn is(what: &str, bytes: &[u8]) -> String {
+    format!("the {what} is {}", count(bytes.len()))
 }
 
 /// A count of bytes in words.

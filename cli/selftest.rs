@@ -1,13 +1,14 @@
 //! `tikhoplav selftest`: the archive against published vectors and stored answers.
 
 use crate::failure::Failure;
+use crate::frame_checks;
 use crate::job::Job;
 use crate::streams;
 use tikhoplav::hex;
 use tikhoplav::sizes::KEY_SIZE;
 use tikhoplav::vectors::{Published, Sealed, Summand, PUBLISHED, SEALED, UNDER_BLANK_KEY};
 
-struct Check {
+pub struct Check {
     what: String,
     passed: bool,
 }
@@ -57,6 +58,7 @@ pub fn run() -> Result<(), Failure> {
             UNKNOWN_HEADING,
             UNKNOWN.into_iter().flat_map(unknown).collect(),
         ),
+        (frame_checks::HEADING, frame_checks::all()),
     ];
     let checks = sections.iter().flat_map(|(_, checks)| checks);
     let total = checks.clone().count();
@@ -84,7 +86,7 @@ fn lines(checks: &[Check]) -> String {
         .collect()
 }
 
-fn check(what: String, passed: bool) -> Check {
+pub fn check(what: String, passed: bool) -> Check {
     Check { what, passed }
 }
 

@@ -1,82 +1,19 @@
 #!/usr/bin/env bash
 # Drives the command-line tool as a user would. Usage: tests/tool.sh TOOL HEADER
 set -u
-tool=$(realpath "$1")
-header=$(realpath "$2")
-scratch=$(mktemp -d)
-trap 'rm -rf "$scratch"' EXIT
-cd "$scratch" || exit 1
+# shellcheck source=tests/driving.sh
+. "$(dirname "$0")/driving.sh" || exit 1
 
-defined() { sed -n "s/^#define TIKHOPLAV_$1 //p" "$header" | tr -d '"'; } # NAME: what the header has for it
 version=$(defined VERSION)
 ad_max=$(defined AD_MAX)
 message_max=$(defined MESSAGE_MAX)
 sealed_max=$((message_max + $(defined TAG_SIZE)))
-
-key=000102030405060708090a0b0c0d0e0f
-nonce=000102030405060708090a0b
 sealed_before="a version before 2.0.0 sealed it: what those sealed with associated data of 128 to 255 bytes no longer opens"
-checks=0
-
-under() { # [EDITION]: what follows names this edition, or none and means edition 1
-  edition=${1:-1} other=2 named=()
-  [ "$edition" = 1 ] || other=1
-  [ $# = 0 ] || named=(--edition "$1")
-  secrets=(--key "$key" --nonce "$nonce" "${named[@]}")
-}
 
 wrong_tag() { # [WHY]: what is said of a wrong tag
   local said="the tag is wrong: the key, the nonce, the associated data or the sealed input is not as it was sealed"
   echo "$said${1:+, or $1}, or it was sealed under edition $other (--edition $other)"
 }
-
-of_edition() { # FIRST SECOND: the one that goes with the edition
-  [ "$edition" = 1 ] && echo "$1" || echo "$2"
-}
-
-check() { # WHAT COMMAND...: the command succeeds
-  checks=$((checks + 1))
-  local what=$1
-  shift
-  "$@" || { echo "tests/tool.sh: $what: does not hold: $*" >&2; exit 1; }
-}
-
-run() { # STATUS ARGUMENT...: the tool exits so; its input is ./input, its output ./output and ./errors
-  local status=0 expected=$1
-  shift
-  "$tool" "$@" <input >output 2>errors || status=$?
-  check "tikhoplav $*: $(cat errors)" [ "$status" = "$expected" ]
-}
-
-refuses() { # NUMBER SENTENCE ARGUMENT...: nothing is written to any output
-  local number=$1 sentence=$2
-  shift 2
-  run "$number" "$@"
-  check "$*" [ "$(cat errors)" = "refusal $number: $sentence" ]
-  check "$*" [ ! -s output ]
-  run "$number" "$@" --out absent
-  check "$*" [ ! -e absent ]
-  echo kept >present
-  run "$number" "$@" --out present
-  check "$*" [ "$(cat present)" = kept ]
-}
-
-misused() { # WHAT ARGUMENT...: wrong usage, told apart from a refusal
-  local what=$1
-  shift
-  run 64 "$@"
-  check "$*" [ "$(cat errors)" = "tikhoplav: $what (see tikhoplav --help)" ]
-  check "$*" [ ! -s output ]
-}
-
-fails_to() { # WHAT ARGUMENT...: input or output fails
-  local what=$1
-  shift
-  run 74 "$@"
-  check "$*: $(cat errors)" grep -q "^tikhoplav: cannot $what" errors
-}
-
-bytes() { head -c "$1" /dev/zero; }
 
 round_trips() {
   printf '\x00\x01\x02\x03\x04\x05\x06\x07\x08\x09\x0a\x0b\x0c\x0d\x0e\x0f' >key
@@ -373,7 +310,7 @@ help_and_selftest() {
   check "--help says that the editions don't open one another" grep -q "The two don't open one another" output
   check "--help says which edition to expect" grep -q "A partner's box is likely to speak edition 2 if" output
   check "--help has the limits of the data" \
-    grep -q "4 the message is over $message_max bytes, or the sealed input over $sealed_max" output
+    grep -q "4 the message is over $message_max bytes (seal), or the sealed input over $sealed_max (open)" output
   cp output help
   for command in seal open parts; do
     run 0 "$command" --help
@@ -385,12 +322,13 @@ help_and_selftest() {
   check "the examples of --help" env PATH="$(dirname "$tool"):$PATH" sh -e examples >shown
   check "the examples in hex, of each edition" [ "$(grep -cE '^[0-9a-f]{46}$' shown)" = 2 ]
   check "the example of a file" cmp log.bin log.copy
+  check "the examples of a frame" [ "$(sed -n '/##/{N;p;}' shown)" = $'7E8##10206929DE3FBCB4C983CC600\n0960' ]
   run 0 parts --in log.sealed
   check "the example of the parts" cmp output <(tail -n 2 shown)
   run 0 --version
   check "--version" [ "$(cat output)" = "tikhoplav $version" ]
   run 0 selftest
-  check "selftest" [ "$(tail -n 1 output)" = "86 passed, 0 failed" ]
+  check "selftest" [ "$(tail -n 1 output)" = "130 passed, 0 failed" ]
   check "selftest says which published vector it leaves out" grep -q "^  Published vector 1 is under this key" output
 }
 
