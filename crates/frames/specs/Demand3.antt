@@ -1,18 +1,31 @@
--- Demand 3 for frames: flips in the ciphertext and in the tag of a genuine frame.
+-- Demand 3 for frames: their strings tell identifiers and messages apart; flips in the ciphertext and in the tag of a genuine frame.
 use mathlib.Core.Path.{_≡_}
 use mathlib.Core.Bool.{Bool}
 use mathlib.Core.List.{List, _++_}
-use Prim.Native.Nat.{ℕ, _*_, _≤_}
+use Prim.Native.Nat.{ℕ, _*_, _≤_, _<_}
 use lib.ListN.{length}
+use Rattle.bits.specs.Bytes.{Bytes}
 use Rattle.bits.specs.Strings.{zeros}
 use Rattle.refusals.specs.Outcome.{Outcome}
 use Rattle.machine.specs.declared.edition.Edition.{Edition}
 use Rattle.startup.specs.Editions.{flipIn}
+use Rattle.payload.specs.AuthenticatedString.{authenticated}
 use Rattle.payload.specs.Laws.{flippedRegisters}
 use Rattle.grain128aead.specs.Demand3.{Verdict}
-use Rattle.frame_checks.specs.Layout.{filler}
+use Rattle.frame_checks.specs.Layout.{identifierLimit, fieldCode, filler}
 use Rattle.frames.specs.Field.{frameAd}
 use Rattle.frames.specs.Demand2.{Makes}
+
+-- The string that the tag of a frame is over.
+abbrev pub frameString : Edition → (identifier : ℕ) → (message : List ℕ) → List Bool
+frameString e identifier message = authenticated e (frameAd identifier (fieldCode (length message))) message
+
+-- Pairs of identifier and message, both legal, that make the same string are the same pair.
+abbrev pub Distinct : Type 0
+Distinct =
+    (e : Edition) (identifier identifier′ : ℕ) (message message′ : List ℕ) → Bytes message → Bytes message′
+    → identifier < identifierLimit → identifier′ < identifierLimit
+    → frameString e identifier message ≡ frameString e identifier′ message′ → (identifier ≡ identifier′) × (message ≡ message′)
 
 -- A genuine frame under a key, a nonce, an identifier and a code.
 pub record Genuine (e : Edition) (key nonce : List ℕ) (identifier code : ℕ) : Type 0 where

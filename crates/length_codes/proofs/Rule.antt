@@ -9,10 +9,10 @@ use native.Mathlib.Omega.{arith}
 use borrow.Author.Tests.{ltb-true, leb-true}
 use lib.Dec.{leb, ltb}
 use Rattle.length_codes.specs.LengthCodes.{codedLengths, codedLength, firstHolding, lengthCode}
-use Rattle.length_codes.specs.Rule.{below, rises, within, smallest, rule, Ruled, Table}
+use Rattle.length_codes.specs.Rule.{below, stepped, rises, within, smallest, rule, Ruled, Table}
 
 pub ruled : Ruled
-unfolding rule rises within smallest below codedLength lengthCode firstHolding codedLengths
+unfolding rule stepped rises within smallest below codedLength lengthCode firstHolding codedLengths
 ruled = refl
 
 both : (a b : Bool) → (a && b) ≡ true → (a ≡ true) × (b ≡ true)
@@ -31,7 +31,7 @@ below-at (suc n) test e i h =
 tests : (below 15 rises ≡ true) × ((below 16 within ≡ true) × (below 65 smallest ≡ true))
 unfolding rule
 tests =
-    let first = both (below 15 rises) _ ruled in
+    let first = both (below 15 rises) _ (both (below 16 stepped) _ ruled .1) in
     (first .0, both (below 16 within) _ (first .1))
 
 rises-at : (code : ℕ) → code < 15 → codedLength code < codedLength (suc code)

@@ -1,8 +1,8 @@
--- The rule of the table: codes rise, up to 64 bytes, and the smallest code that holds a length is the smallest.
+-- The rule of the table: codes rise, in even steps and up to 64 bytes, and the smallest code that holds a length is the smallest.
 use mathlib.Core.Path.{_≡_}
-use mathlib.Core.Bool.{Bool, true, _&&_}
-use Prim.Native.Nat.{ℕ, zero, suc, _≤_, _<_}
-use lib.Dec.{leb, ltb}
+use mathlib.Core.Bool.{Bool, true, cond, _&&_}
+use Prim.Native.Nat.{ℕ, zero, suc, _+_, _-_, _*_, _≤_, _<_}
+use lib.Dec.{eqb, leb, ltb}
 use Rattle.length_codes.specs.LengthCodes.{codedLength, lengthCode}
 
 -- Each number below n passes a test.
@@ -14,6 +14,10 @@ below (suc n) test = test n && below n test
 unfoldable pub rises : (code : ℕ) → Bool
 rises code = ltb (codedLength code) (codedLength (suc code))
 
+-- Up to 8 a code means itself, from there to 12 each means four bytes more than the last, and from 13 on each sixteen more.
+unfoldable pub stepped : (code : ℕ) → Bool
+stepped code = eqb (codedLength code) (cond (leb code 8) code (cond (leb code 12) (8 + 4 * (code - 8)) (32 + 16 * (code - 13))))
+
 -- No code means more than 64.
 unfoldable pub within : (code : ℕ) → Bool
 within code = leb (codedLength code) 64
@@ -24,7 +28,7 @@ smallest n = ltb (lengthCode n) 16 && (leb n (codedLength (lengthCode n)) && bel
 
 -- The rule over the whole table, as one test that computes.
 unfoldable pub rule : Bool
-rule = below 15 rises && (below 16 within && below 65 smallest)
+rule = below 16 stepped && (below 15 rises && (below 16 within && below 65 smallest))
 
 abbrev pub Ruled : Type 0
 Ruled = rule ≡ true
