@@ -1,4 +1,4 @@
-// The calls for C: plain numbers and byte slices. A success is the count, refusal n is minus n.
+// The calls for C: plain numbers and byte slices. A success is a number from 0 on, refusal n is minus n.
 pub mod codes;
 pub mod framing;
 

@@ -17,36 +17,36 @@ use Rattle.key.specs.BlankKey.{isBlank}
 use Rattle.key.proofs.BlankKey.{not-blank, unequal-not-blank}
 use Rattle.length_codes.specs.LengthCodes.{codedLength}
 use Rattle.frame_checks.specs.Layout.{identifierLimit, messageLimit, fieldCode, fieldSize, announced, filler, zeroBytes}
-use Rattle.frame_checks.specs.Address.{Address}
-use Rattle.frame_checks.specs.Order.{addressed, making, beforeTag, reading, Numbered}
-use Rattle.frame_checks.specs.Rows.{addressRows, makingRows, notCoded, wrongLength, readingRows, Tabled}
+use Rattle.frame_checks.specs.Common.{Common}
+use Rattle.frame_checks.specs.Order.{common, making, beforeTag, reading, Numbered}
+use Rattle.frame_checks.specs.Rows.{commonRows, makingRows, notCoded, wrongLength, readingRows, Tabled}
 
 pub numbered : Numbered
-unfolding making reading beforeTag addressed
+unfolding making reading beforeTag common
 numbered = record { ofMaking = refl; ofReading = refl }
 
 pub tabled : Tabled
-unfolding making reading beforeTag addressed makingRows readingRows addressRows
+unfolding making reading beforeTag common makingRows readingRows commonRows
 tabled = record { ofMaking = λ key nonce identifier m room. refl; ofReading = λ key nonce identifier code field room wrongTag. refl }
 
 -- The rows on key, nonce and identifier, where these are in order.
-pub record AddressRows (key nonce : List ℕ) (identifier : ℕ) : Type 0 where
+pub record CommonRows (key nonce : List ℕ) (identifier : ℕ) : Type 0 where
   pub keySized : not (eqb (length key) keySize) ≡ false
   pub nonceSized : not (eqb (length nonce) nonceSize) ≡ false
   pub keyNotBlank : isBlank key ≡ false
   pub identifierFits : leb identifierLimit identifier ≡ false
 
 module _ {key nonce : List ℕ} {identifier : ℕ} where
-  pub address-rows : Address key nonce identifier → AddressRows key nonce identifier
-  address-rows a = record {
+  pub common-rows : Common key nonce identifier → CommonRows key nonce identifier
+  common-rows a = record {
     keySized = ap not (eq-eqb (length key) keySize (a .keySized));
     nonceSized = ap not (eq-eqb (length nonce) nonceSize (a .nonceSized));
     keyNotBlank = unequal-not-blank key (a .keyNotBlank);
     identifierFits = lt-leb identifierLimit identifier (a .identifierFits);
   }
 
-  pub rows-address : AddressRows key nonce identifier → Address key nonce identifier
-  rows-address r = record {
+  pub rows-common : CommonRows key nonce identifier → Common key nonce identifier
+  rows-common r = record {
     keySized = eqb-true (length key) keySize (not-false (eqb (length key) keySize) (r .keySized));
     nonceSized = eqb-true (length nonce) nonceSize (not-false (eqb (length nonce) nonceSize) (r .nonceSized));
     keyNotBlank = not-blank key (r .keyNotBlank);
@@ -56,23 +56,23 @@ module _ {key nonce : List ℕ} {identifier : ℕ} where
 -- ---- making
 
 pub record MakingClear (key nonce : List ℕ) (identifier m room : ℕ) : Type 0 where
-  pub address : Address key nonce identifier
+  pub common : Common key nonce identifier
   pub messageFits : m ≤ messageLimit
   pub fits : fieldSize m ≤ room
 
 module _ (key nonce : List ℕ) (identifier m room : ℕ) where
   pub making-clear : ((r : Refusal) → among (makingRows key nonce identifier m room) r ≡ false) → MakingClear key nonce identifier m room
-  unfolding makingRows addressRows among
+  unfolding makingRows commonRows among
   making-clear none = record {
-    address = rows-address (record { keySized = none KeySize; nonceSized = none NonceSize; keyNotBlank = none BlankKey; identifierFits = none IdentifierTooLarge });
+    common = rows-common (record { keySized = none KeySize; nonceSized = none NonceSize; keyNotBlank = none BlankKey; identifierFits = none IdentifierTooLarge });
     messageFits = ltb-false messageLimit m (none FrameMessageTooLong);
     fits = ltb-false room (fieldSize m) (none OutputTooShort);
   }
 
   pub clear-making : MakingClear key nonce identifier m room → (r : Refusal) → among (makingRows key nonce identifier m room) r ≡ false
-  unfolding makingRows addressRows
+  unfolding makingRows commonRows
   clear-making c =
-      let a = address-rows (c .address) in
+      let a = common-rows (c .common) in
       quiet-row _ _ (a .keySized) (quiet-row _ _ (a .nonceSized) (quiet-row _ _ (a .keyNotBlank) (quiet-row _ _ (a .identifierFits)
       (quiet-row _ _ (le-ltb messageLimit m (c .messageFits)) (quiet-row _ _ (le-ltb room (fieldSize m) (c .fits)) quiet-none)))))
 
@@ -112,7 +112,7 @@ module _ (code : ℕ) (field : List ℕ) where
   announces-row a = simp (ne-eqb (length field) 0 (a .some), le-ltb messageLimit (announced field) (a .messageFits), eq-eqb code (fieldCode (announced field)) (a .smallest))
 
 pub record ReadingClear (key nonce : List ℕ) (identifier code : ℕ) (field : List ℕ) (room : ℕ) (wrongTag : Bool) : Type 0 where
-  pub address : Address key nonce identifier
+  pub common : Common key nonce identifier
   pub coded : Coded code field
   pub announces : Announces code field
   pub zeros : zeroBytes (filler field) ≡ true
@@ -121,9 +121,9 @@ pub record ReadingClear (key nonce : List ℕ) (identifier code : ℕ) (field : 
 
 module _ (key nonce : List ℕ) (identifier code : ℕ) (field : List ℕ) (room : ℕ) (wrongTag : Bool) where
   pub reading-clear : ((r : Refusal) → among (readingRows key nonce identifier code field room wrongTag) r ≡ false) → ReadingClear key nonce identifier code field room wrongTag
-  unfolding readingRows addressRows among
+  unfolding readingRows commonRows among
   reading-clear none = record {
-    address = rows-address (record { keySized = none KeySize; nonceSized = none NonceSize; keyNotBlank = none BlankKey; identifierFits = none IdentifierTooLarge });
+    common = rows-common (record { keySized = none KeySize; nonceSized = none NonceSize; keyNotBlank = none BlankKey; identifierFits = none IdentifierTooLarge });
     coded = row-coded code field (none NotCodedLength);
     announces = row-announces code field (none WrongMessageLength);
     zeros = not-false (zeroBytes (filler field)) (none FillerNotZero);
@@ -132,9 +132,9 @@ module _ (key nonce : List ℕ) (identifier code : ℕ) (field : List ℕ) (room
   }
 
   pub clear-reading : ReadingClear key nonce identifier code field room wrongTag → (r : Refusal) → among (readingRows key nonce identifier code field room wrongTag) r ≡ false
-  unfolding readingRows addressRows
+  unfolding readingRows commonRows
   clear-reading c =
-      let a = address-rows (c .address) in
+      let a = common-rows (c .common) in
       quiet-row _ _ (a .keySized) (quiet-row _ _ (a .nonceSized) (quiet-row _ _ (a .keyNotBlank) (quiet-row _ _ (a .identifierFits)
       (quiet-row _ _ (coded-row code field (c .coded)) (quiet-row _ _ (announces-row code field (c .announces)) (quiet-row _ _ (ap not (c .zeros))
       (quiet-row _ _ (le-ltb room (announced field) (c .fits)) (quiet-row _ _ (c .authentic) quiet-none))))))))

@@ -19,7 +19,7 @@ messageLimit = 55
 abbrev pub overhead : ℕ
 overhead = 9
 
--- The code and the size of the field of a message of m bytes.
+-- The code and the size of the field of a message of m bytes. Over 55 bytes there is no field: the code is none, and the size 0.
 abbrev pub fieldCode : (m : ℕ) → ℕ
 fieldCode m = lengthCode (m + overhead)
 

@@ -1,4 +1,4 @@
 pub mod Layout
-pub mod Address
+pub mod Common
 pub mod Order
 pub mod Rows

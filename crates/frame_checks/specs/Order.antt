@@ -6,15 +6,15 @@ use Rattle.refusals.specs.declared.Refusal.the-variants.{KeySize, NonceSize, Ou
 use Rattle.refusals.specs.Refusals.{number}
 
 -- What both begin with.
-unfoldable pub addressed : List Refusal
-addressed = KeySize ∷ NonceSize ∷ BlankKey ∷ IdentifierTooLarge ∷ []
+unfoldable pub common : List Refusal
+common = KeySize ∷ NonceSize ∷ BlankKey ∷ IdentifierTooLarge ∷ []
 
 unfoldable pub making : List Refusal
-making = addressed ++ (FrameMessageTooLong ∷ OutputTooShort ∷ [])
+making = common ++ (FrameMessageTooLong ∷ OutputTooShort ∷ [])
 
 -- The rows before the tag's.
 unfoldable pub beforeTag : List Refusal
-beforeTag = addressed ++ (NotCodedLength ∷ WrongMessageLength ∷ FillerNotZero ∷ OutputTooShort ∷ [])
+beforeTag = common ++ (NotCodedLength ∷ WrongMessageLength ∷ FillerNotZero ∷ OutputTooShort ∷ [])
 
 unfoldable pub reading : List Refusal
 reading = beforeTag ++ (TagDiffers ∷ [])

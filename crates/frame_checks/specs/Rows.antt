@@ -13,8 +13,8 @@ use Rattle.length_codes.specs.LengthCodes.{isCode, codedLength}
 use Rattle.frame_checks.specs.Layout.{identifierLimit, messageLimit, fieldCode, fieldSize, announced, filler, zeroBytes}
 use Rattle.frame_checks.specs.Order as order
 
-unfoldable pub addressRows : (key nonce : List ℕ) → (identifier : ℕ) → List Row
-addressRows key nonce identifier =
+unfoldable pub commonRows : (key nonce : List ℕ) → (identifier : ℕ) → List Row
+commonRows key nonce identifier =
     (KeySize when not (eqb (length key) keySize))
     ∷ (NonceSize when not (eqb (length nonce) nonceSize))
     ∷ (BlankKey when isBlank key)
@@ -24,7 +24,7 @@ addressRows key nonce identifier =
 -- For a message of m bytes and an output of so many.
 unfoldable pub makingRows : (key nonce : List ℕ) → (identifier m room : ℕ) → List Row
 makingRows key nonce identifier m room =
-    addressRows key nonce identifier
+    commonRows key nonce identifier
     ++ ((FrameMessageTooLong when ltb messageLimit m)
     ∷ (OutputTooShort when ltb room (fieldSize m))
     ∷ [])
@@ -41,10 +41,10 @@ wrongLength code field = eqb (length field) 0 || (ltb messageLimit (announced fi
 abbrev pub fillerNotZero : (field : List ℕ) → Bool
 fillerNotZero field = not (zeroBytes (filler field))
 
--- For an output of so many bytes; whether the tag differs is the reader's to say.
+-- For an output of so many bytes; whether the tag differs is handed in.
 unfoldable pub readingRows : (key nonce : List ℕ) → (identifier code : ℕ) → (field : List ℕ) → (room : ℕ) → (wrongTag : Bool) → List Row
 readingRows key nonce identifier code field room wrongTag =
-    addressRows key nonce identifier
+    commonRows key nonce identifier
     ++ ((NotCodedLength when notCoded code field)
     ∷ (WrongMessageLength when wrongLength code field)
     ∷ (FillerNotZero when fillerNotZero field)

@@ -7,13 +7,13 @@ ghost use lib.ListN.{length};
 ghost use Rattle.refusals.specs.Refusals.{among};
 ghost use Rattle.refusals.specs.Refusals as refusals;
 ghost use Rattle.frame_checks.specs.Order as order;
-ghost use Rattle.frame_checks.specs.Rows.{addressRows, makingRows, readingRows};
+ghost use Rattle.frame_checks.specs.Rows.{commonRows, makingRows, readingRows};
 use refusals::Check;
 use refusals::Refusal;
 
 // The first of the rows on key, nonce and identifier that applies.
-pub fn judge_address(key: &[u8], nonce: &[u8], identifier: u32) -> Check
-    ensures { λ r. ⌜ r ≡ refusals.check order.addressed (among (addressRows (now (key .entry)) (now (nonce .entry)) identifier)) ⌝ }
+pub fn judge_common(key: &[u8], nonce: &[u8], identifier: u32) -> Check
+    ensures { λ r. ⌜ r ≡ refusals.check order.common (among (commonRows (now (key .entry)) (now (nonce .entry)) identifier)) ⌝ }
 {
     let blank = key::is_blank(key);
     let c = refusals::after(Check::Passed, Refusal::KeySize, key.len() != 16);
@@ -28,7 +28,7 @@ pub fn judge_making(key: &[u8], nonce: &[u8], identifier: u32, message: &[u8], r
 {
     let too_long = 55 < message.len();
     let short = room < layout::field_size(message);
-    let c = judge_address(key, nonce, identifier);
+    let c = judge_common(key, nonce, identifier);
     let c = refusals::after(c, Refusal::FrameMessageTooLong, too_long);
     refusals::after(c, Refusal::OutputTooShort, short)
 }
@@ -48,7 +48,7 @@ pub fn judge_reading(
     let wrong_length = layout::wrong_length(code, field);
     let not_zero = layout::filler_not_zero(field);
     let no_room = room < layout::announced(field) as usize;
-    let c = judge_address(key, nonce, identifier);
+    let c = judge_common(key, nonce, identifier);
     let c = refusals::after(c, Refusal::NotCodedLength, not_coded);
     let c = refusals::after(c, Refusal::WrongMessageLength, wrong_length);
     let c = refusals::after(c, Refusal::FillerNotZero, not_zero);

@@ -27,7 +27,7 @@ use Rattle.frame_checks.specs.Layout.{overhead, fieldSize, announced, sealedPar
 use Rattle.frame_checks.specs.Rows.{wrongLength, fillerNotZero}
 use Rattle.frame_checks.proofs.Rows.{Announces, row-announces, announces-row}
 use Rattle.frame_checks.proofs.ZeroBytes.{zero-bytes, zeros-behind, zeros-are}
-use Rattle.frames.specs.Calls.{hidden, wrongTag, read}
+use Rattle.frames.specs.Calls.{recovered, wrongTag, read}
 use Rattle.frames.specs.Demand2.{Makes, Demand2}
 use Rattle.frames.specs.Demand3.{Genuine}
 use Rattle.frames.specs.Damage.{FillerFlips, Fits, ZerosBehind, Altered, LengthFlips}
@@ -66,7 +66,7 @@ flipped-zeros e n d long i one zero = true≢false (sym one ∙ ap (λ (t : List
 
 pub filler-flips : (e : Edition) (key nonce : List ℕ) (identifier code : ℕ) (field out : List ℕ) → FillerFlips e key nonce identifier code field out (read e key nonce identifier code field out)
 filler-flips e key nonce identifier code field out old d f longD longF flipped i one =
-    read-field e key nonce identifier code field out (old .makes .legal .address) (like-coded (old .makes) same) (announces-row code field (like-announces (old .makes) same its)) (ap not damaged) refl
+    read-field e key nonce identifier code field out (old .makes .legal .common) (like-coded (old .makes) same) (announces-row code field (like-announces (old .makes) same its)) (ap not damaged) refl
   where
     filled : ℕ
     filled = fieldSize (length (old .message)) - (length (old .message) + overhead)
@@ -107,12 +107,12 @@ module _ {e : Edition} {key nonce : List ℕ} {identifier code : ℕ} (old : Gen
   by : {wrong notZero noRoom : Bool} → wrongLength code field ≡ wrong → fillerNotZero field ≡ notZero → ltb (length out) (announced field) ≡ noRoom
       → read e key nonce identifier code field out
       ≡ cond wrong (refused WrongMessageLength out) (cond notZero (refused FillerNotZero out) (cond noRoom (refused OutputTooShort out)
-      (cond (wrongTag e key nonce identifier code field) (refused TagDiffers out) (success (hidden e key nonce identifier code field) out))))
-  by = read-field e key nonce identifier code field out (old .makes .legal .address) (like-coded (old .makes) same)
+      (cond (wrongTag e key nonce identifier code field) (refused TagDiffers out) (success (recovered e key nonce identifier code field) out))))
+  by = read-field e key nonce identifier code field out (old .makes .legal .common) (like-coded (old .makes) same)
 
   -- Where none of them applies, the tag decides, and by demand 2.
   decides : Bytes field → Fits code (announced field) → ZerosBehind old (announced field) → announced field ≤ length out
-      → Verdict ((message : List ℕ) × Makes e key nonce identifier code message field) (hidden e key nonce identifier code field) out (read e key nonce identifier code field out)
+      → Verdict ((message : List ℕ) × Makes e key nonce identifier code message field) (recovered e key nonce identifier code field) out (read e key nonce identifier code field out)
   decides b fits behind room = go (wrongTag e key nonce identifier code field) (by (announces-row code field (fits-announces fits)) (ap not (counts ∙ behind)) (le-ltb (length out) (announced field) room))
     where
       made : Type 0
@@ -125,8 +125,8 @@ module _ {e : Edition} {key nonce : List ℕ} {identifier code : ℕ} (old : Gen
       accepts = (λ a. let h = d2 .accepts .0 a in (h .0, h .1), λ h. d2 .accepts .1 (h .0, h .1, subst (λ (n : ℕ). n ≤ length out) (made-announced (h .1)) room))
 
       go : (differs : Bool)
-          → read e key nonce identifier code field out ≡ cond differs (refused TagDiffers out) (success (hidden e key nonce identifier code field) out)
-          → Verdict made (hidden e key nonce identifier code field) out (read e key nonce identifier code field out)
+          → read e key nonce identifier code field out ≡ cond differs (refused TagDiffers out) (success (recovered e key nonce identifier code field) out)
+          → Verdict made (recovered e key nonce identifier code field) out (read e key nonce identifier code field out)
       go true is = record {
         accepts = accepts;
         returns = λ h. absurd (count-not-refused (accepts .1 h .1) (ap (λ (o : Outcome). o .answer) is));
@@ -135,7 +135,7 @@ module _ {e : Edition} {key nonce : List ℕ} {identifier code : ℕ} (old : Gen
       go false is = record {
         accepts = accepts;
         returns = λ h. is;
-        refuses = λ no. absurd (no (accepts .0 (length (hidden e key nonce identifier code field), ap (λ (o : Outcome). o .answer) is)));
+        refuses = λ no. absurd (no (accepts .0 (length (recovered e key nonce identifier code field), ap (λ (o : Outcome). o .answer) is)));
       }
 
   altered-length : Bytes field → Altered old (announced field) field out (read e key nonce identifier code field out)

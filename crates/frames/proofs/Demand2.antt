@@ -25,7 +25,7 @@ use Rattle.frame_checks.specs.Order as order
 use Rattle.frame_checks.proofs.Rows.{making-clear, clear-making, ReadingClear, reading-clear, tabled}
 use Rattle.frame_checks.proofs.ZeroBytes.{zero-bytes, zeros-are}
 use Rattle.frames.specs.Field.{frameAd, dataField}
-use Rattle.frames.specs.Calls.{makingRows, made, hidden, wrongTag, readingRows, read}
+use Rattle.frames.specs.Calls.{makingRows, made, recovered, wrongTag, readingRows, read}
 use Rattle.frames.specs.Demand2.{Legal, Makes, Making, Demand2}
 use Rattle.frames.proofs.Parts.{joined, parted}
 use Rattle.frames.proofs.Field.{made-announced, made-filler, made-payload, like-coded, like-announces}
@@ -38,34 +38,34 @@ module _ (e : Edition) (key nonce : List ℕ) (identifier : ℕ) (message out : 
 
   accepted : Legal key nonce identifier message → fieldSize (length message) ≤ length out → Accepts (made e key nonce identifier message out)
   accepted l room =
-      demand1-making .accepts .1 (clear-making key nonce identifier (length message) (length out) (record { address = l .address; messageFits = l .messageFits; fits = room }))
+      demand1-making .accepts .1 (clear-making key nonce identifier (length message) (length out) (record { common = l .common; messageFits = l .messageFits; fits = room }))
 
   pub making : Making e key nonce identifier message out (made e key nonce identifier message out)
   making = record {
     accepts = (
-      λ a. let c = making-clear key nonce identifier (length message) (length out) (demand1-making .accepts .0 a) in (record { address = c .address; messageFits = c .messageFits }, c .fits),
+      λ a. let c = making-clear key nonce identifier (length message) (length out) (demand1-making .accepts .0 a) in (record { common = c .common; messageFits = c .messageFits }, c .fits),
       λ h. accepted (h .0) (h .1),
     );
     makes = λ l room. demand1-making .ordered .writes (accepted l room);
   }
 
 module _ (e : Edition) (key nonce : List ℕ) (identifier code : ℕ) (field out : List ℕ) where
-  pub demand1-reading : Demand1 order.reading (among (readingRows e key nonce identifier code field out)) (hidden e key nonce identifier code field) out (read e key nonce identifier code field out)
+  pub demand1-reading : Demand1 order.reading (among (readingRows e key nonce identifier code field out)) (recovered e key nonce identifier code field) out (read e key nonce identifier code field out)
   unfolding read
   demand1-reading =
       demand1 order.reading (readingRows e key nonce identifier code field out) (tabled .ofReading key nonce identifier code field (length out) (wrongTag e key nonce identifier code field))
-      (hidden e key nonce identifier code field) out
+      (recovered e key nonce identifier code field) out
 
   -- Where reading accepts, no row before the tag's applies.
   pub accepted-clear : Accepts (read e key nonce identifier code field out) → ReadingClear key nonce identifier code field (length out) false
   accepted-clear a =
       let c = reading-clear key nonce identifier code field (length out) _ (demand1-reading .accepts .0 a) in
-      record { address = c .address; coded = c .coded; announces = c .announces; zeros = c .zeros; fits = c .fits; authentic = refl }
+      record { common = c .common; coded = c .coded; announces = c .announces; zeros = c .zeros; fits = c .fits; authentic = refl }
 
   -- So it is for a field that a message makes, given room.
   pub makes-clear : (m : List ℕ) → Makes e key nonce identifier code m field → length m ≤ length out → ReadingClear key nonce identifier code field (length out) false
   makes-clear m makes room = record {
-    address = makes .legal .address;
+    common = makes .legal .common;
     coded = like-coded makes refl;
     announces = like-announces makes refl (made-announced makes);
     zeros = ap zeroBytes (made-filler makes) ∙ zeros-are (fieldSize (length m) - (length m + overhead));
@@ -78,7 +78,7 @@ module _ (e : Edition) (key nonce : List ℕ) (identifier code : ℕ) (field out
   unfolding dataField
   clear-makes c m sealed = record {
     isBytes = sealed .isBytes;
-    legal = record { address = c .address; messageFits = omega (arith, its, c .announces .messageFits) };
+    legal = record { common = c .common; messageFits = omega (arith, its, c .announces .messageFits) };
     itsCode = ap fieldCode its ∙ sym (c .announces .smallest);
     made =
         ap₂ (λ (n k : ℕ). joined n (payload e key nonce (frameAd identifier k) m) (replicate (fieldSize n - (n + overhead)) 0)) its (ap fieldCode its ∙ sym (c .announces .smallest))

@@ -79,7 +79,7 @@ module _ {e : Edition} {key nonce : List ℕ} {identifier code : ℕ} {field : L
 
   clear : (out : List ℕ) → length (old .message) ≤ length out → ReadingClear key nonce identifier code field (length out) false
   clear out room = record {
-    address = old .makes .legal .address;
+    common = old .makes .legal .common;
     coded = like-coded (old .makes) same;
     announces = like-announces (old .makes) same its;
     zeros = ap zeroBytes (behind-filler old (inCiphertext ++ inTag) none long (f .flipped) ∙ flipIn-none e (fill (old .makes)) (8 * length (filler (old .field))) (zeros-bytes filled) (ap (λ (t : List ℕ). 8 * length t) (made-filler (old .makes)))) ∙ zeros-are filled;

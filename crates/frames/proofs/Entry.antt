@@ -32,7 +32,7 @@ use Rattle.frame_checks.specs.Order as order
 use Rattle.frame_checks.proofs.FieldCodes.{fieldCodes}
 use Rattle.frame_checks.proofs.Rows.{MakingClear, making-clear, ReadingClear, tabled}
 use Rattle.frames.specs.Field.{frameAd, dataField}
-use Rattle.frames.specs.Calls.{makingRows, made, hidden, wrongTag, read}
+use Rattle.frames.specs.Calls.{makingRows, made, recovered, wrongTag, read}
 use Rattle.frames.proofs.Field.{ad-fits, message-fits, sized}
 use Rattle.frames.proofs.Settled.{judgement, passed-clear, read-settled, read-opened}
 use Rattle.frames.proofs.Demand2.{making}
@@ -99,9 +99,9 @@ module _ {key nonce : List ℕ} {identifier : ℕ} {message lent : List ℕ} {c 
         let p = payload e key nonce ad message in
         ap (λ (o : Outcome). o .output) (is ∙ sealing e key nonce ad message part .seals
         record {
-          keySized = make-clear .address .keySized;
-          nonceSized = make-clear .address .nonceSized;
-          keyNotBlank = make-clear .address .keyNotBlank;
+          keySized = make-clear .common .keySized;
+          nonceSized = make-clear .common .nonceSized;
+          keyNotBlank = make-clear .common .keyNotBlank;
           adFits = ad-fits;
           messageFits = omega (arith, make-clear .messageFits, message-fits);
         } (le-of-eq (sym long)))
@@ -126,7 +126,7 @@ module _ {key nonce : List ℕ} {identifier : ℕ} {message lent : List ℕ} {c 
           (ap (putMid (m + 9) (size - (m + 9)) sealedOutput) zeros ∙ with-zeros m size p lent long holds room
           ∙ ap₂ (λ (s : List ℕ) (n : ℕ). ((m ∷ s) ++ replicate (n - (m + 9)) 0) ++ drop n lent) wrote fieldSized)
           ∙ ap (λ (n : ℕ). outcome (Count n) (dataField e key nonce identifier message ++ drop n lent)) (sym (sized e key nonce identifier message (make-clear .messageFits)))
-          ∙ sym (making e key nonce identifier message lent .makes (record { address = make-clear .address; messageFits = make-clear .messageFits }) (make-clear .fits))
+          ∙ sym (making e key nonce identifier message lent .makes (record { common = make-clear .common; messageFits = make-clear .messageFits }) (make-clear .fits))
         where
           holds : m + 9 ≤ size
           holds = omega (arith, fieldSized, make-holds)
@@ -159,7 +159,7 @@ module _ {key nonce : List ℕ} {identifier code : ℕ} {field lent : List ℕ} 
   unfolding settled
   read-failed e h =
       sym (read-settled e key nonce identifier code field lent
-      ∙ ap (λ (d : Check). settled (after d TagDiffers (wrongTag e key nonce identifier code field)) (hidden e key nonce identifier code field) lent) (sym (checks .checked) ∙ h))
+      ∙ ap (λ (d : Check). settled (after d TagDiffers (wrongTag e key nonce identifier code field)) (recovered e key nonce identifier code field) lent) (sym (checks .checked) ∙ h))
 
   module _ (passed : c ≡ Passed) where
     read-clear : ReadingClear key nonce identifier code field (length lent) false

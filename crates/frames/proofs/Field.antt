@@ -1,6 +1,6 @@
 -- The field that a message makes: its size, its parts, and the message's payload in it.
 -- Assumes nothing.
-use mathlib.Core.Path.{_≡_, sym, ap, _∙_}
+use mathlib.Core.Path.{_≡_, refl, sym, ap, _∙_}
 use mathlib.Core.List.{List, _∷_}
 use Prim.Native.Nat.{ℕ, _+_, _-_, _≤_}
 use native.Mathlib.Omega.{arith}
@@ -15,7 +15,7 @@ use Rattle.length_codes.specs.LengthCodes.{codedLength}
 use Rattle.frame_checks.specs.Layout.{overhead, fieldCode, fieldSize, announced, sealedPart, filler}
 use Rattle.frame_checks.proofs.FieldCodes.{fieldCodes}
 use Rattle.frame_checks.proofs.Rows.{Coded, Announces}
-use Rattle.frames.specs.Field.{frameAd, dataField, Sized}
+use Rattle.frames.specs.Field.{frameAd, AdExample, dataField, Sized}
 use Rattle.frames.specs.Demand2.{Makes}
 use Rattle.frames.proofs.Parts.{joined, joined-sealed, joined-filler}
 
@@ -27,6 +27,9 @@ ad-fits = lit≤ tt
 pub message-fits : 55 ≤ messageLimit
 unfolding messageLimit
 message-fits = lit≤ tt
+
+pub ad-example : AdExample
+ad-example = refl
 
 pub sized : Sized
 unfolding dataField
@@ -84,9 +87,9 @@ module _ {e : Edition} {key nonce : List ℕ} {identifier code : ℕ} {message f
   made-payload = record {
     isBytes = makes .isBytes;
     legal = record {
-      keySized = makes .legal .address .keySized;
-      nonceSized = makes .legal .address .nonceSized;
-      keyNotBlank = makes .legal .address .keyNotBlank;
+      keySized = makes .legal .common .keySized;
+      nonceSized = makes .legal .common .nonceSized;
+      keyNotBlank = makes .legal .common .keyNotBlank;
       adFits = ad-fits;
       messageFits = omega (arith, makes .legal .messageFits, message-fits);
     };

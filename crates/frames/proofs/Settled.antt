@@ -21,14 +21,14 @@ use Rattle.machine.specs.declared.edition.Edition.{Edition}
 use Rattle.grain128aead.specs.Calls.{opened}
 use Rattle.grain128aead.proofs.Demand2.{InOrder, opening-tag}
 use Rattle.length_codes.specs.LengthCodes.{codedLength}
-use Rattle.frame_checks.specs.Address.{Address}
+use Rattle.frame_checks.specs.Common.{Common}
 use Rattle.frame_checks.specs.Layout.{fieldSize, announced, sealedPart}
-use Rattle.frame_checks.specs.Order.{addressed, beforeTag, reading}
-use Rattle.frame_checks.specs.Rows.{addressRows, wrongLength, fillerNotZero, readingRows}
+use Rattle.frame_checks.specs.Order.{common, beforeTag, reading}
+use Rattle.frame_checks.specs.Rows.{commonRows, wrongLength, fillerNotZero, readingRows}
 use Rattle.frame_checks.proofs.FieldCodes.{fieldCodes}
-use Rattle.frame_checks.proofs.Rows.{address-rows, Coded, coded-row, ReadingClear, reading-clear, clear-reading, tabled}
+use Rattle.frame_checks.proofs.Rows.{common-rows, Coded, coded-row, ReadingClear, reading-clear, clear-reading, tabled}
 use Rattle.frames.specs.Field.{frameAd}
-use Rattle.frames.specs.Calls.{hidden, wrongTag, read}
+use Rattle.frames.specs.Calls.{recovered, wrongTag, read}
 use Rattle.frames.proofs.Field.{ad-fits, message-fits}
 
 -- What the rows before the tag's come to, whatever the tag.
@@ -37,7 +37,7 @@ judgement key nonce identifier code field room = check beforeTag (among (reading
 
 module _ (key nonce : List ℕ) (identifier code : ℕ) (field : List ℕ) (room : ℕ) where
   check-rows : (differs : Bool) → check reading (among (readingRows key nonce identifier code field room differs)) ≡ after (judgement key nonce identifier code field room) TagDiffers differs
-  unfolding reading beforeTag addressed readingRows addressRows among check
+  unfolding reading beforeTag common readingRows commonRows among check
   check-rows differs = check-last beforeTag TagDiffers (among (readingRows key nonce identifier code field room differs))
 
   pub passed-clear : judgement key nonce identifier code field room ≡ Passed → ReadingClear key nonce identifier code field room false
@@ -74,25 +74,25 @@ module _ (written out : List ℕ) where
 
 module _ (e : Edition) (key nonce : List ℕ) (identifier code : ℕ) (field out : List ℕ) where
   pub read-settled : read e key nonce identifier code field out
-      ≡ settled (after (judgement key nonce identifier code field (length out)) TagDiffers (wrongTag e key nonce identifier code field)) (hidden e key nonce identifier code field) out
+      ≡ settled (after (judgement key nonce identifier code field (length out)) TagDiffers (wrongTag e key nonce identifier code field)) (recovered e key nonce identifier code field) out
   unfolding read judged
-  read-settled = ap (λ (c : Check). settled c (hidden e key nonce identifier code field) out) (check-rows key nonce identifier code field (length out) (wrongTag e key nonce identifier code field))
+  read-settled = ap (λ (c : Check). settled c (recovered e key nonce identifier code field) out) (check-rows key nonce identifier code field (length out) (wrongTag e key nonce identifier code field))
 
   module _ (clear : ReadingClear key nonce identifier code field (length out) false) where
     -- Only the tag's row is left.
-    pub read-tag : read e key nonce identifier code field out ≡ cond (wrongTag e key nonce identifier code field) (refused TagDiffers out) (success (hidden e key nonce identifier code field) out)
+    pub read-tag : read e key nonce identifier code field out ≡ cond (wrongTag e key nonce identifier code field) (refused TagDiffers out) (success (recovered e key nonce identifier code field) out)
     read-tag =
         read-settled
-        ∙ ap (λ (c : Check). settled (after c TagDiffers (wrongTag e key nonce identifier code field)) (hidden e key nonce identifier code field) out) (clear-passed key nonce identifier code field (length out) clear)
-        ∙ settled-last TagDiffers (wrongTag e key nonce identifier code field) (hidden e key nonce identifier code field) out
+        ∙ ap (λ (c : Check). settled (after c TagDiffers (wrongTag e key nonce identifier code field)) (recovered e key nonce identifier code field) out) (clear-passed key nonce identifier code field (length out) clear)
+        ∙ settled-last TagDiffers (wrongTag e key nonce identifier code field) (recovered e key nonce identifier code field) out
 
     in-order : InOrder e key nonce (frameAd identifier code) (sealedPart field) out
     in-order =
         let long = length-sealedPart key nonce identifier code field (length out) clear in
         record {
-          keySized = clear .address .keySized;
-          nonceSized = clear .address .nonceSized;
-          keyNotBlank = clear .address .keyNotBlank;
+          keySized = clear .common .keySized;
+          nonceSized = clear .common .nonceSized;
+          keyNotBlank = clear .common .keyNotBlank;
           adFits = ad-fits;
           inputFits = omega (arith, long, message-fits, clear .announces .messageFits);
           reaches = omega (arith, long);
@@ -100,23 +100,23 @@ module _ (e : Edition) (key nonce : List ℕ) (identifier code : ℕ) (field out
         }
 
     pub read-opened : read e key nonce identifier code field out ≡ opened e key nonce (frameAd identifier code) (sealedPart field) out
-    unfolding wrongTag hidden
+    unfolding wrongTag recovered
     read-opened = read-tag ∙ sym (opening-tag e key nonce (frameAd identifier code) (sealedPart field) out in-order)
 
   -- What reading comes to by the rows on the field.
   abbrev byField : (wrong notZero noRoom : Bool) → Outcome
   byField wrong notZero noRoom =
       cond wrong (refused WrongMessageLength out) (cond notZero (refused FillerNotZero out) (cond noRoom (refused OutputTooShort out)
-      (cond (wrongTag e key nonce identifier code field) (refused TagDiffers out) (success (hidden e key nonce identifier code field) out))))
+      (cond (wrongTag e key nonce identifier code field) (refused TagDiffers out) (success (recovered e key nonce identifier code field) out))))
 
   -- So it is where what stands before the field is in order.
-  pub read-field : Address key nonce identifier → Coded code field → {wrong notZero noRoom : Bool}
+  pub read-field : Common key nonce identifier → Coded code field → {wrong notZero noRoom : Bool}
       → wrongLength code field ≡ wrong → fillerNotZero field ≡ notZero → ltb (length out) (announced field) ≡ noRoom
       → read e key nonce identifier code field out ≡ byField wrong notZero noRoom
-  unfolding read judged reading beforeTag addressed readingRows addressRows among check
-  read-field address coded {wrong} {notZero} lengths zeros rooms =
-      let a = address-rows address in
-      let w = hidden e key nonce identifier code field in
+  unfolding read judged reading beforeTag common readingRows commonRows among check
+  read-field common coded {wrong} {notZero} lengths zeros rooms =
+      let a = common-rows common in
+      let w = recovered e key nonce identifier code field in
       pass w out _ (a .keySized) _ _ ∙ pass w out _ (a .nonceSized) _ _ ∙ pass w out _ (a .keyNotBlank) _ _ ∙ pass w out _ (a .identifierFits) _ _
       ∙ pass w out _ (coded-row code field coded) _ _
       ∙ last-four w out (wrongLength code field) (fillerNotZero field) (ltb (length out) (announced field)) (wrongTag e key nonce identifier code field)

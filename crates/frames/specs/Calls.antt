@@ -7,7 +7,7 @@ use lib.ListN.{length}
 use Rattle.refusals.specs.Refusals.{Row, among}
 use Rattle.refusals.specs.Outcome.{Outcome, judged}
 use Rattle.machine.specs.declared.edition.Edition.{Edition}
-use Rattle.grain128aead.specs.Calls.{recovered, tagDiffers}
+use Rattle.grain128aead.specs.Calls as cipher
 use Rattle.frame_checks.specs.Layout.{sealedPart}
 use Rattle.frame_checks.specs.Order.{making, reading}
 use Rattle.frame_checks.specs.Rows as rows
@@ -21,12 +21,12 @@ made e key nonce identifier message out =
     judged making (among (makingRows key nonce identifier message out)) (dataField e key nonce identifier message) out
 
 -- The message of a field.
-unfoldable pub hidden : Edition → (key nonce : List ℕ) → (identifier code : ℕ) → (field : List ℕ) → List ℕ
-hidden e key nonce identifier code field = recovered e key nonce (frameAd identifier code) (sealedPart field)
+unfoldable pub recovered : Edition → (key nonce : List ℕ) → (identifier code : ℕ) → (field : List ℕ) → List ℕ
+recovered e key nonce identifier code field = cipher.recovered e key nonce (frameAd identifier code) (sealedPart field)
 
 -- Its tag differs from the recomputed one.
 unfoldable pub wrongTag : Edition → (key nonce : List ℕ) → (identifier code : ℕ) → (field : List ℕ) → Bool
-wrongTag e key nonce identifier code field = tagDiffers e key nonce (frameAd identifier code) (sealedPart field)
+wrongTag e key nonce identifier code field = cipher.tagDiffers e key nonce (frameAd identifier code) (sealedPart field)
 
 abbrev pub readingRows : Edition → (key nonce : List ℕ) → (identifier code : ℕ) → (field out : List ℕ) → List Row
 readingRows e key nonce identifier code field out =
@@ -34,4 +34,4 @@ readingRows e key nonce identifier code field out =
 
 unfoldable pub read : Edition → (key nonce : List ℕ) → (identifier code : ℕ) → (field out : List ℕ) → Outcome
 read e key nonce identifier code field out =
-    judged reading (among (readingRows e key nonce identifier code field out)) (hidden e key nonce identifier code field) out
+    judged reading (among (readingRows e key nonce identifier code field out)) (recovered e key nonce identifier code field) out

@@ -11,7 +11,7 @@ use Rattle.machine.specs.declared.edition.Edition.{Edition}
 use Rattle.startup.specs.Editions.{flipIn}
 use Rattle.grain128aead.specs.Demand3.{Verdict}
 use Rattle.frame_checks.specs.Layout.{messageLimit, fieldCode, announced, sealedPart, filler, zeroBytes}
-use Rattle.frames.specs.Calls.{hidden}
+use Rattle.frames.specs.Calls.{recovered}
 use Rattle.frames.specs.Demand2.{Makes}
 use Rattle.frames.specs.Demand3.{Genuine}
 
@@ -33,14 +33,14 @@ Fits code m = (m ≤ messageLimit) × (fieldCode m ≡ code)
 abbrev pub ZerosBehind : {e : Edition} {key nonce : List ℕ} {identifier code : ℕ} → Genuine e key nonce identifier code → (m : ℕ) → Type 0
 ZerosBehind old m = zeroBytes (drop (m + 8) (sealedPart (old .field))) ≡ true
 
--- With another M, m: refusal 11 where it does not fit the code; else 12 where what then counts as filler is not zero; else 6 where there is no
+-- With m for M: refusal 11 where it does not fit the code; else 12 where what then counts as filler is not zero; else 6 where there is no
 -- room for m bytes; else the tag decides: it is accepted exactly when some message makes this very field, and otherwise it is refusal 7.
 pub record Altered {e : Edition} {key nonce : List ℕ} {identifier code : ℕ} (old : Genuine e key nonce identifier code) (m : ℕ) (field out : List ℕ) (o : Outcome) : Type 0 where
   pub misfit : ¬ Fits code m → o ≡ refused WrongMessageLength out
   pub notZero : Fits code m → ¬ ZerosBehind old m → o ≡ refused FillerNotZero out
   pub noRoom : Fits code m → ZerosBehind old m → length out < m → o ≡ refused OutputTooShort out
   pub decided : Fits code m → ZerosBehind old m → m ≤ length out
-      → Verdict ((message : List ℕ) × Makes e key nonce identifier code message field) (hidden e key nonce identifier code field) out o
+      → Verdict ((message : List ℕ) × Makes e key nonce identifier code message field) (recovered e key nonce identifier code field) out o
 
 -- Whatever bits of M are flipped.
 abbrev pub LengthFlips : Edition → (key nonce : List ℕ) → (identifier code : ℕ) → (field out : List ℕ) → Outcome → Type 0

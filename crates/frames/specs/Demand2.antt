@@ -8,12 +8,12 @@ use Rattle.bits.specs.Bytes.{Bytes}
 use Rattle.refusals.specs.Outcome.{Outcome, success}
 use Rattle.refusals.specs.Demand1.{Accepts}
 use Rattle.machine.specs.declared.edition.Edition.{Edition}
-use Rattle.frame_checks.specs.Address.{Address}
+use Rattle.frame_checks.specs.Common.{Common}
 use Rattle.frame_checks.specs.Layout.{messageLimit, fieldCode, fieldSize}
 use Rattle.frames.specs.Field.{dataField}
 
 pub record Legal (key nonce : List ℕ) (identifier : ℕ) (message : List ℕ) : Type 0 where
-  pub address : Address key nonce identifier
+  pub common : Common key nonce identifier
   pub messageFits : length message ≤ messageLimit
 
 -- The message, legal with its key, nonce and identifier, makes this very code and data field.

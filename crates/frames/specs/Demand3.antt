@@ -20,7 +20,7 @@ use Rattle.frames.specs.Demand2.{Makes}
 abbrev pub frameString : Edition → (identifier : ℕ) → (message : List ℕ) → List Bool
 frameString e identifier message = authenticated e (frameAd identifier (fieldCode (length message))) message
 
--- Pairs of identifier and message, both legal, that make the same string are the same pair.
+-- Pairs of a legal identifier and a message that make the same string are the same pair.
 abbrev pub Distinct : Type 0
 Distinct =
     (e : Edition) (identifier identifier′ : ℕ) (message message′ : List ℕ) → Bytes message → Bytes message′

@@ -12,6 +12,9 @@ abbrev pub frameAd : (identifier code : ℕ) → List ℕ
 frameAd identifier code =
     identifier / 2 ^ 24 % 256 ∷ identifier / 2 ^ 16 % 256 ∷ identifier / 2 ^ 8 % 256 ∷ identifier % 256 ∷ code % 256 ∷ []
 
+abbrev pub AdExample : Type 0
+AdExample = frameAd 0x12345678 9 ≡ 0x12 ∷ 0x34 ∷ 0x56 ∷ 0x78 ∷ 0x09 ∷ []
+
 -- The field that a message makes.
 unfoldable pub dataField : Edition → (key nonce : List ℕ) → (identifier : ℕ) → (message : List ℕ) → List ℕ
 dataField e key nonce identifier message =

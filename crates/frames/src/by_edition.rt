@@ -54,7 +54,7 @@ pub fn read(
     out: &mut [u8],
 ) -> Answer
     ensures read { λ r. ⌜ outcome r (now (out .exit)) ≡ calls.read edition (now (key .entry)) (now (nonce .entry)) identifier code (now (field .entry)) (now (out .entry)) ⌝ }
-    ensures demand1 { λ r. ⌜ Demand1 order.reading (among (calls.readingRows edition (now (key .entry)) (now (nonce .entry)) identifier code (now (field .entry)) (now (out .entry)))) (calls.hidden edition (now (key .entry)) (now (nonce .entry)) identifier code (now (field .entry))) (now (out .entry)) (outcome r (now (out .exit))) ⌝ }
+    ensures demand1 { λ r. ⌜ Demand1 order.reading (among (calls.readingRows edition (now (key .entry)) (now (nonce .entry)) identifier code (now (field .entry)) (now (out .entry)))) (calls.recovered edition (now (key .entry)) (now (nonce .entry)) identifier code (now (field .entry))) (now (out .entry)) (outcome r (now (out .exit))) ⌝ }
     ensures promises { λ r. ⌜ Reading edition (now (key .entry)) (now (nonce .entry)) identifier code (now (field .entry)) (now (out .entry)) (outcome r (now (out .exit))) ⌝ }
 {
     let room = out.len();

@@ -46,7 +46,7 @@ pub fn read(
     out: &mut [u8],
 ) -> Answer
     ensures read { λ r. ⌜ outcome r (now (out .exit)) ≡ calls.read First (now (key .entry)) (now (nonce .entry)) identifier code (now (field .entry)) (now (out .entry)) ⌝ }
-    ensures demand1 { λ r. ⌜ Demand1 order.reading (among (calls.readingRows First (now (key .entry)) (now (nonce .entry)) identifier code (now (field .entry)) (now (out .entry)))) (calls.hidden First (now (key .entry)) (now (nonce .entry)) identifier code (now (field .entry))) (now (out .entry)) (outcome r (now (out .exit))) ⌝ }
+    ensures demand1 { λ r. ⌜ Demand1 order.reading (among (calls.readingRows First (now (key .entry)) (now (nonce .entry)) identifier code (now (field .entry)) (now (out .entry)))) (calls.recovered First (now (key .entry)) (now (nonce .entry)) identifier code (now (field .entry))) (now (out .entry)) (outcome r (now (out .exit))) ⌝ }
     ensures promises { λ r. ⌜ Reading First (now (key .entry)) (now (nonce .entry)) identifier code (now (field .entry)) (now (out .entry)) (outcome r (now (out .exit))) ⌝ }
 {
     by_edition::read(Edition::First, key, nonce, identifier, code, field, out)

@@ -1,4 +1,4 @@
--- The rule of the table: codes rise, in even steps and up to 64 bytes, and the smallest code that holds a length is the smallest.
+-- The rule of the table: codes rise in known steps, up to 64 bytes, and the smallest code that holds a length is the smallest.
 use mathlib.Core.Path.{_≡_}
 use mathlib.Core.Bool.{Bool, true, cond, _&&_}
 use Prim.Native.Nat.{ℕ, zero, suc, _+_, _-_, _*_, _≤_, _<_}
@@ -14,7 +14,7 @@ below (suc n) test = test n && below n test
 unfoldable pub rises : (code : ℕ) → Bool
 rises code = ltb (codedLength code) (codedLength (suc code))
 
--- Up to 8 a code means itself, from there to 12 each means four bytes more than the last, and from 13 on each sixteen more.
+-- Up to 8 a code means itself, from there to 12 each means four bytes more than the last; 13 means 32, and from there each sixteen more.
 unfoldable pub stepped : (code : ℕ) → Bool
 stepped code = eqb (codedLength code) (cond (leb code 8) code (cond (leb code 12) (8 + 4 * (code - 8)) (32 + 16 * (code - 13))))
 
@@ -33,7 +33,7 @@ rule = below 16 stepped && (below 15 rises && (below 16 within && below 65 small
 abbrev pub Ruled : Type 0
 Ruled = rule ≡ true
 
--- What the test tells.
+-- What the test tells of lengths and codes.
 pub record Table : Type 0 where
   pub rises : (code : ℕ) → code < 15 → codedLength code < codedLength (suc code)
   pub within : (code : ℕ) → code < 16 → codedLength code ≤ 64

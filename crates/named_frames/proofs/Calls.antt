@@ -26,15 +26,15 @@ use Rattle.frames.proofs.Promises as eachReading
 use Rattle.named_frames.specs.Calls.{making, reading, makingRows, made, readingRows, read, Numbered}
 
 pub numbered : Numbered
-unfolding order.making order.reading order.beforeTag order.addressed
+unfolding order.making order.reading order.beforeTag order.common
 numbered = record { ofMaking = refl; ofReading = refl }
 
 making-others : without23 order.making ≡ true
-unfolding order.making order.addressed
+unfolding order.making order.common
 making-others = refl
 
 reading-others : without23 order.reading ≡ true
-unfolding order.reading order.beforeTag order.addressed
+unfolding order.reading order.beforeTag order.common
 reading-others = refl
 
 module _ (n : ℕ) (key nonce : List ℕ) (identifier : ℕ) (message out : List ℕ) where
@@ -61,21 +61,21 @@ module _ (n : ℕ) (key nonce : List ℕ) (identifier : ℕ) (message out : List
 module _ (n : ℕ) (key nonce : List ℕ) (identifier code : ℕ) (field out : List ℕ) where
   pub read-unknown : known n ≡ false → refused UnknownEdition out ≡ read n key nonce identifier code field out
   unfolding read
-  read-unknown = unknown order.reading reading-others n (calls.readingRows (named n) key nonce identifier code field out) (calls.hidden (named n) key nonce identifier code field) out
+  read-unknown = unknown order.reading reading-others n (calls.readingRows (named n) key nonce identifier code field out) (calls.recovered (named n) key nonce identifier code field) out
 
   pub read-known : known n ≡ true → calls.read (named n) key nonce identifier code field out ≡ read n key nonce identifier code field out
   unfolding read calls.read
-  read-known = goes-on order.reading reading-others n (calls.readingRows (named n) key nonce identifier code field out) (calls.hidden (named n) key nonce identifier code field) out
+  read-known = goes-on order.reading reading-others n (calls.readingRows (named n) key nonce identifier code field out) (calls.recovered (named n) key nonce identifier code field) out
 
-  pub demand1-reading : Demand1 reading (among (readingRows n key nonce identifier code field out)) (calls.hidden (named n) key nonce identifier code field) out (read n key nonce identifier code field out)
+  pub demand1-reading : Demand1 reading (among (readingRows n key nonce identifier code field out)) (calls.recovered (named n) key nonce identifier code field) out (read n key nonce identifier code field out)
   unfolding read
   demand1-reading =
       demand1 reading (readingRows n key nonce identifier code field out)
       (ap (λ (rs : List Refusal). UnknownEdition ∷ rs) (tabled .ofReading key nonce identifier code field (length out) (calls.wrongTag (named n) key nonce identifier code field)))
-      (calls.hidden (named n) key nonce identifier code field) out
+      (calls.recovered (named n) key nonce identifier code field) out
 
   pub reads : Bytes field → InNamed n (λ e. Reading e key nonce identifier code field out (read n key nonce identifier code field out))
   unfolding read calls.read
   reads b =
-      in-named order.reading reading-others n (calls.readingRows (named n) key nonce identifier code field out) (calls.hidden (named n) key nonce identifier code field) out
+      in-named order.reading reading-others n (calls.readingRows (named n) key nonce identifier code field out) (calls.recovered (named n) key nonce identifier code field) out
       (λ e. calls.read e key nonce identifier code field out) refl (λ e. Reading e key nonce identifier code field out) (λ e. eachReading.reading e key nonce identifier code field out b)

@@ -31,7 +31,7 @@ readingRows n key nonce identifier code field out = withEdition n (calls.reading
 
 unfoldable pub read : (n : ℕ) → (key nonce : List ℕ) → (identifier code : ℕ) → (field out : List ℕ) → Outcome
 read n key nonce identifier code field out =
-    judged reading (among (readingRows n key nonce identifier code field out)) (calls.hidden (named n) key nonce identifier code field) out
+    judged reading (among (readingRows n key nonce identifier code field out)) (calls.recovered (named n) key nonce identifier code field) out
 
 -- 23 comes before the orders of the calls without a named edition.
 pub record Numbered : Type 0 where

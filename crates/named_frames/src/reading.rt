@@ -23,7 +23,7 @@ pub fn read(
     out: &mut [u8],
 ) -> Answer
     ensures read { λ r. ⌜ outcome r (now (out .exit)) ≡ named.read edition (now (key .entry)) (now (nonce .entry)) identifier code (now (field .entry)) (now (out .entry)) ⌝ }
-    ensures demand1 { λ r. ⌜ Demand1 named.reading (among (named.readingRows edition (now (key .entry)) (now (nonce .entry)) identifier code (now (field .entry)) (now (out .entry)))) (calls.hidden (naming.named edition) (now (key .entry)) (now (nonce .entry)) identifier code (now (field .entry))) (now (out .entry)) (outcome r (now (out .exit))) ⌝ }
+    ensures demand1 { λ r. ⌜ Demand1 named.reading (among (named.readingRows edition (now (key .entry)) (now (nonce .entry)) identifier code (now (field .entry)) (now (out .entry)))) (calls.recovered (naming.named edition) (now (key .entry)) (now (nonce .entry)) identifier code (now (field .entry))) (now (out .entry)) (outcome r (now (out .exit))) ⌝ }
     ensures promises { λ r. ⌜ InNamed edition (λ e. Reading e (now (key .entry)) (now (nonce .entry)) identifier code (now (field .entry)) (now (out .entry)) (outcome r (now (out .exit)))) ⌝ }
 {
     if !editions::known(edition) {

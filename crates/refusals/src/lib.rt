@@ -27,7 +27,7 @@ pub enum Check {
     Failed(Refusal),
 }
 
-// What a call answers: the count of bytes written, or why it refused.
+// What a call answers: a count, as a rule of the bytes written, or why it refused.
 pub enum Answer {
     Count(usize),
     Refused(Refusal),

@@ -5,8 +5,8 @@ use mathlib.Core.Bool.{false}
 use borrow.Author.Needs.{needs}
 use Rattle.refusals.specs.Refusals.{among}
 use Rattle.refusals.proofs.Rows.{check-in-order}
-use Rattle.frame_checks.specs.Order.{addressed, beforeTag}
-use Rattle.frame_checks.specs.Rows.{addressRows, readingRows}
+use Rattle.frame_checks.specs.Order.{common, beforeTag}
+use Rattle.frame_checks.specs.Rows.{commonRows, readingRows}
 use Rattle.frame_checks.proofs.judge_reading.Statement.{statement}
 use Rattle.frame_checks.proofs.judge_reading.Tie as tie
 
@@ -25,8 +25,8 @@ announced-requires c κs = search needs
 cast-no-room : tie.Need-cast-no-room
 cast-no-room c = search needs
 
-judge-address-requires : tie.Need-judge-address-requires
-judge-address-requires c κs = search needs
+judge-common-requires : tie.Need-judge-common-requires
+judge-common-requires c κs = search needs
 
 after-requires : tie.Need-after-requires
 after-requires c κs = search needs
@@ -41,7 +41,7 @@ after-requires-4 : tie.Need-after-requires-4
 after-requires-4 c κs = search needs
 
 returns : tie.Need-returns
-unfolding beforeTag addressed readingRows addressRows among
+unfolding beforeTag common readingRows commonRows among
 returns c =
     let c3 = c .before in
     let c2 = c3 .before in
@@ -52,7 +52,7 @@ returns c =
     let w = f .before in
     let n = w .before in
     let a = n .before .before .before .before .args in
-    rw (c .after4 .ensures, c3 .after3 .ensures, c2 .after2 .ensures, c1 .after .ensures, j .judge-address .ensures ∙ sym (check-in-order (among (addressRows (a .key .now) (a .nonce .now) (a .identifier))) addressed))
+    rw (c .after4 .ensures, c3 .after3 .ensures, c2 .after2 .ensures, c1 .after .ensures, j .judge-common .ensures ∙ sym (check-in-order (among (commonRows (a .key .now) (a .nonce .now) (a .identifier))) common))
     (rw (m .announced .ensures, f .filler-not-zero .ensures, w .wrong-length .ensures, n .not-coded .ensures)
     (check-in-order (among (readingRows (a .key .now) (a .nonce .now) (a .identifier) (a .code) (a .field .now) (a .room) false)) beforeTag))
 
@@ -65,7 +65,7 @@ judge-reading-spec =
     filler-not-zero-requires
     announced-requires
     cast-no-room
-    judge-address-requires
+    judge-common-requires
     after-requires
     after-requires-2
     after-requires-3

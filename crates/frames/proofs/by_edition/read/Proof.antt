@@ -11,7 +11,7 @@ use Rattle.refusals.specs.Outcome.{Outcome}
 use Rattle.checks.specs.Demand1.{Demand1}
 use Rattle.machine.specs.declared.edition.Edition.{Edition}
 use Rattle.frame_checks.specs.Order as order
-use Rattle.frames.specs.Calls.{readingRows, hidden, read}
+use Rattle.frames.specs.Calls.{readingRows, recovered, read}
 use Rattle.frames.specs.Promises.{Reading}
 use Rattle.frames.proofs.Demand2.{demand1-reading}
 use Rattle.frames.proofs.Promises.{reading}
@@ -22,11 +22,11 @@ use Rattle.frames.proofs.by_edition.read.Tie as tie
 -- The call's three clauses from the first of them.
 called : (e : Edition) (key nonce : List ℕ) (identifier code : ℕ) (field out : List ℕ) {o : Outcome} → Bytes field → o ≡ read e key nonce identifier code field out
     → (o ≡ read e key nonce identifier code field out)
-    × (Demand1 order.reading (among (readingRows e key nonce identifier code field out)) (hidden e key nonce identifier code field) out o × Reading e key nonce identifier code field out o)
+    × (Demand1 order.reading (among (readingRows e key nonce identifier code field out)) (recovered e key nonce identifier code field) out o × Reading e key nonce identifier code field out o)
 called e key nonce identifier code field out b is = (
   is,
   (
-    subst (Demand1 order.reading (among (readingRows e key nonce identifier code field out)) (hidden e key nonce identifier code field) out) (sym is) (demand1-reading e key nonce identifier code field out),
+    subst (Demand1 order.reading (among (readingRows e key nonce identifier code field out)) (recovered e key nonce identifier code field) out) (sym is) (demand1-reading e key nonce identifier code field out),
     subst (Reading e key nonce identifier code field out) (sym is) (reading e key nonce identifier code field out b),
   ),
 )

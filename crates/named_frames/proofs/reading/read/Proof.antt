@@ -23,11 +23,11 @@ use Rattle.named_frames.proofs.reading.read.Tie as tie
 -- The call's three clauses from the first of them.
 called : (n : ℕ) (key nonce : List ℕ) (identifier code : ℕ) (field out : List ℕ) {o : Outcome} → Bytes field → o ≡ read n key nonce identifier code field out
     → (o ≡ read n key nonce identifier code field out)
-    × (Demand1 reading (among (readingRows n key nonce identifier code field out)) (calls.hidden (naming.named n) key nonce identifier code field) out o × InNamed n (λ e. Reading e key nonce identifier code field out o))
+    × (Demand1 reading (among (readingRows n key nonce identifier code field out)) (calls.recovered (naming.named n) key nonce identifier code field) out o × InNamed n (λ e. Reading e key nonce identifier code field out o))
 called n key nonce identifier code field out b is = (
   is,
   (
-    subst (Demand1 reading (among (readingRows n key nonce identifier code field out)) (calls.hidden (naming.named n) key nonce identifier code field) out) (sym is) (demand1-reading n key nonce identifier code field out),
+    subst (Demand1 reading (among (readingRows n key nonce identifier code field out)) (calls.recovered (naming.named n) key nonce identifier code field) out) (sym is) (demand1-reading n key nonce identifier code field out),
     subst (λ (o : Outcome). InNamed n (λ e. Reading e key nonce identifier code field out o)) (sym is) (reads n key nonce identifier code field out b),
   ),
 )

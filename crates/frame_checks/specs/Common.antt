@@ -8,7 +8,7 @@ use Rattle.key.specs.Sizes.{keySize, nonceSize}
 use Rattle.key.specs.BlankKey.{blankKey}
 use Rattle.frame_checks.specs.Layout.{identifierLimit}
 
-pub record Address (key nonce : List ℕ) (identifier : ℕ) : Type 0 where
+pub record Common (key nonce : List ℕ) (identifier : ℕ) : Type 0 where
   pub keySized : length key ≡ keySize
   pub nonceSized : length nonce ≡ nonceSize
   pub keyNotBlank : key ≢ blankKey

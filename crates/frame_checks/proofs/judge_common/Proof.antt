@@ -1,12 +1,12 @@
--- `frame_checks::judge_address` meets its contract.
+-- `frame_checks::judge_common` meets its contract.
 -- Assumes nothing.
 use borrow.Author.Needs.{needs}
 use Rattle.refusals.specs.Refusals.{among}
 use Rattle.refusals.proofs.Rows.{check-in-order}
-use Rattle.frame_checks.specs.Order.{addressed}
-use Rattle.frame_checks.specs.Rows.{addressRows}
-use Rattle.frame_checks.proofs.judge_address.Statement.{statement}
-use Rattle.frame_checks.proofs.judge_address.Tie as tie
+use Rattle.frame_checks.specs.Order.{common}
+use Rattle.frame_checks.specs.Rows.{commonRows}
+use Rattle.frame_checks.proofs.judge_common.Statement.{statement}
+use Rattle.frame_checks.proofs.judge_common.Tie as tie
 
 is-blank-requires : tie.Need-is-blank-requires
 is-blank-requires c κs = search needs
@@ -24,7 +24,7 @@ after-requires-4 : tie.Need-after-requires-4
 after-requires-4 c κs = search needs
 
 returns : tie.Need-returns
-unfolding addressed addressRows among
+unfolding common commonRows among
 returns c =
     let c3 = c .before in
     let c2 = c3 .before in
@@ -32,10 +32,10 @@ returns c =
     let b = c1 .before in
     let a = b .before .before .before .args in
     rw (c .after4 .ensures, c3 .after3 .ensures, c2 .after2 .ensures, c1 .after .ensures, b .is-blank .ensures)
-    (check-in-order (among (addressRows (a .key .now) (a .nonce .now) (a .identifier))) addressed)
+    (check-in-order (among (commonRows (a .key .now) (a .nonce .now) (a .identifier))) common)
 
-pub judge-address-spec : {M : Type 1} → statement M
-judge-address-spec =
+pub judge-common-spec : {M : Type 1} → statement M
+judge-common-spec =
     tie.close
     (tie.spec
     is-blank-requires
