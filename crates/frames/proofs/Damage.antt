@@ -13,12 +13,10 @@ use Rattle.bits.specs.Bytes.{Bytes}
 use Rattle.bits.specs.Strings.{_⊞_, zeros, places}
 use Rattle.bits.proofs.Slides.{places-zeros}
 use Rattle.bits.proofs.Sum.{sum-self}
-use Rattle.refusals.specs.declared.Refusal.{Refusal}
-use Rattle.refusals.specs.declared.Answer.{Answer}
-use Rattle.refusals.specs.declared.Answer.the-variants.{Count, Refused}
-use Rattle.refusals.specs.declared.Refusal.the-variants.{OutputTooShort, TagDiffers, WrongMessageLength, FillerNotZero}
+use Rattle.refusals.specs.declared.Refusal.the-variants.{TagDiffers}
 use Rattle.refusals.specs.Outcome.{Outcome, refused, success}
 use Rattle.refusals.specs.Demand1.{Accepts}
+use Rattle.refusals.proofs.Demand1.{count-not-refused}
 use Rattle.machine.specs.declared.edition.Edition.{Edition}
 use Rattle.startup.specs.Editions.{bitsIn, flipIn}
 use Rattle.startup.proofs.Order.{length-flipIn, sum-flipIn}
@@ -32,7 +30,7 @@ use Rattle.frames.specs.Demand2.{Makes, Demand2}
 use Rattle.frames.specs.Demand3.{Genuine}
 use Rattle.frames.specs.Damage.{FillerFlips, Fits, ZerosBehind, Altered, LengthFlips}
 use Rattle.frames.proofs.Field.{fill, sealed, made-announced, made-joined, made-sealed, made-filler, like-coded, like-announces}
-use Rattle.frames.proofs.Settled.{read-field}
+use Rattle.frames.proofs.Settled.{byField, read-field}
 use Rattle.frames.proofs.Demand2.{demand2}
 use Rattle.frames.proofs.Flipped.{behind-announced, behind-filler, behind-length, in-length}
 
@@ -44,9 +42,6 @@ otherwise false h = absurd (h refl)
 unless : (b : Bool) → (b ≡ true → ⊥) → b ≡ false
 unless true h = absurd (h refl)
 unless false h = refl
-
-count-not-refused : {a : Answer} {n : ℕ} {r : Refusal} → a ≡ Count n → a ≡ Refused r → ⊥
-count-not-refused p q = let z : _≡_ {A = ℕ} 0 1 = cc in omega arith
 
 -- Zeros with a bit flipped are not zeros.
 flipped-zeros : (e : Edition) (n : ℕ) (d : List Bool) → length d ≡ 8 * n → (i : ℕ) → places d i ≡ true → zeroBytes (flipIn e (replicate n 0) d) ≡ true → ⊥
@@ -105,9 +100,7 @@ module _ {e : Edition} {key nonce : List ℕ} {identifier code : ℕ} (old : Gen
 
   -- The rows on the field, one after the other.
   by : {wrong notZero noRoom : Bool} → wrongLength code field ≡ wrong → fillerNotZero field ≡ notZero → ltb (length out) (announced field) ≡ noRoom
-      → read e key nonce identifier code field out
-      ≡ cond wrong (refused WrongMessageLength out) (cond notZero (refused FillerNotZero out) (cond noRoom (refused OutputTooShort out)
-      (cond (wrongTag e key nonce identifier code field) (refused TagDiffers out) (success (recovered e key nonce identifier code field) out))))
+      → read e key nonce identifier code field out ≡ byField e key nonce identifier code field out wrong notZero noRoom
   by = read-field e key nonce identifier code field out (old .makes .legal .common) (like-coded (old .makes) same)
 
   -- Where none of them applies, the tag decides, and by demand 2.

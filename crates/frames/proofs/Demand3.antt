@@ -33,13 +33,13 @@ same-bytes x y above last = omega (arith, above, last)
 same-from : (x y n : ℕ) → x / (n * 256) ≡ y / (n * 256) → x / n % 256 ≡ y / n % 256 → x / n ≡ y / n
 same-from x y n above = same-bytes (x / n) (y / n) (div-div-eq-div-mul x n 256 ∙ above ∙ sym (div-div-eq-div-mul y n 256))
 
-one-byte : (x : ℕ) → x < identifierLimit → x / 2 ^ 24 % 256 ≡ x / 2 ^ 24
-one-byte x h = omega (arith, h)
+top-byte : (x : ℕ) → x < identifierLimit → x / 2 ^ 24 % 256 ≡ x / 2 ^ 24
+top-byte x h = omega (arith, h)
 
 -- The AD tells identifiers apart.
 same-identifier : (i j c d : ℕ) → i < identifierLimit → j < identifierLimit → frameAd i c ≡ frameAd j d → i ≡ j
 same-identifier i j c d hi hj same =
-    same-bytes i j (same-from i j (2 ^ 8) (same-from i j (2 ^ 16) (sym (one-byte i hi) ∙ at 0 ∙ one-byte j hj) (at 1)) (at 2)) (at 3)
+    same-bytes i j (same-from i j (2 ^ 8) (same-from i j (2 ^ 16) (sym (top-byte i hi) ∙ at 0 ∙ top-byte j hj) (at 1)) (at 2)) (at 3)
   where
     at : (k : ℕ) → getD (frameAd i c) k 0 ≡ getD (frameAd j d) k 0
     at k = ap (λ (s : List ℕ). getD s k 0) same

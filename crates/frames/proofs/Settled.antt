@@ -104,7 +104,7 @@ module _ (e : Edition) (key nonce : List ℕ) (identifier code : ℕ) (field out
     read-opened = read-tag ∙ sym (opening-tag e key nonce (frameAd identifier code) (sealedPart field) out in-order)
 
   -- What reading comes to by the rows on the field.
-  abbrev byField : (wrong notZero noRoom : Bool) → Outcome
+  abbrev pub byField : (wrong notZero noRoom : Bool) → Outcome
   byField wrong notZero noRoom =
       cond wrong (refused WrongMessageLength out) (cond notZero (refused FillerNotZero out) (cond noRoom (refused OutputTooShort out)
       (cond (wrongTag e key nonce identifier code field) (refused TagDiffers out) (success (recovered e key nonce identifier code field) out))))

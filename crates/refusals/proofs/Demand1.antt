@@ -21,7 +21,7 @@ use Rattle.refusals.specs.Demand1.{First, Clear, Decides, Demand1}
 passed-not-failed : {c : Check} {r : Refusal} → c ≡ Passed → c ≡ Failed r → ⊥
 passed-not-failed p q = let z : _≡_ {A = ℕ} 0 1 = cc in omega arith
 
-count-not-refused : {a : Answer} {n : ℕ} {r : Refusal} → a ≡ Count n → a ≡ Refused r → ⊥
+pub count-not-refused : {a : Answer} {n : ℕ} {r : Refusal} → a ≡ Count n → a ≡ Refused r → ⊥
 count-not-refused p q = let z : _≡_ {A = ℕ} 0 1 = cc in omega arith
 
 failed-same : {c : Check} {q r : Refusal} → c ≡ Failed q → c ≡ Failed r → q ≡ r
