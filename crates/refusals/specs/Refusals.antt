@@ -1,10 +1,10 @@
--- Refusals: their numbers, rows, and the first row that applies (document 01, "When the box says no"; numbers 8 to 12, 15 and 23, document 02, C-11, C-18 and C-20).
+-- Refusals: their numbers, rows, and the first row that applies (document 01, "When the box says no"; numbers 8 to 15 and 23, document 02, C-11, C-13, C-18 and C-20).
 use mathlib.Core.Bool.{Bool, false, cond}
 use mathlib.Core.List.{List, [], _∷_}
 use Prim.Native.Nat.{ℕ}
 use lib.Dec.{eqb}
 use Rattle.refusals.specs.declared.Refusal.{Refusal}
-use Rattle.refusals.specs.declared.Refusal.the-variants.{KeySize, NonceSize, AdTooLong, MessageTooLong, SealedTooShort, OutputTooShort, TagDiffers, IdentifierTooLarge, FrameMessageTooLong, NotCodedLength, WrongMessageLength, FillerNotZero, BlankKey, UnknownEdition}
+use Rattle.refusals.specs.declared.Refusal.the-variants.{KeySize, NonceSize, AdTooLong, MessageTooLong, SealedTooShort, OutputTooShort, TagDiffers, IdentifierTooLarge, FrameMessageTooLong, NotCodedLength, WrongMessageLength, FillerNotZero, OutOfTurn, UnsoundState, BlankKey, UnknownEdition}
 use Rattle.refusals.specs.declared.Check.{Check}
 use Rattle.refusals.specs.declared.Check.the-variants.{Passed, Failed}
 
@@ -21,6 +21,8 @@ number FrameMessageTooLong = 9
 number NotCodedLength = 10
 number WrongMessageLength = 11
 number FillerNotZero = 12
+number OutOfTurn = 13
+number UnsoundState = 14
 number BlankKey = 15
 number UnknownEdition = 23
 

@@ -17,6 +17,8 @@ pub enum Refusal {
     NotCodedLength,
     WrongMessageLength,
     FillerNotZero,
+    OutOfTurn,
+    UnsoundState,
     BlankKey,
     UnknownEdition,
 }
@@ -50,6 +52,8 @@ pub fn number(r: Refusal) -> u8
         Refusal::NotCodedLength => 10,
         Refusal::WrongMessageLength => 11,
         Refusal::FillerNotZero => 12,
+        Refusal::OutOfTurn => 13,
+        Refusal::UnsoundState => 14,
         Refusal::BlankKey => 15,
         Refusal::UnknownEdition => 23,
     }
