@@ -1,19 +1,13 @@
 -- `grain128aead::by_edition::begin` meets its contract.
 -- Assumes nothing.
-use mathlib.Core.Path.{_≡_, sym, ap₂, _∙_}
-use mathlib.Core.List.{List, _++_, append-nil}
+use mathlib.Core.Path.{sym, ap₂, _∙_}
+use mathlib.Core.List.{List}
 use Prim.Native.Nat.{ℕ}
-use native.Mathlib.Nat.{le-of-eq}
 use borrow.Author.Needs.{needs}
-use lib.ListN.{length, take, drop, drop-of-length-le}
-use lib.Seq.{take-length}
+use Rattle.bits.proofs.Written.{copied}
 use Rattle.payload.specs.Payload.{begun}
 use Rattle.grain128aead.proofs.by_edition.begin.Statement.{statement}
 use Rattle.grain128aead.proofs.by_edition.begin.Tie as tie
-
--- A copy of a string over one of its length is the string.
-copied : (s lent : List ℕ) {d : List ℕ} → length lent ≡ length s → d ≡ take (length s) s ++ drop (length s) lent → d ≡ s
-copied s lent h e = e ∙ ap₂ _++_ (take-length s) (drop-of-length-le lent (le-of-eq h)) ∙ append-nil s
 
 slice-aggregate-copy : tie.Need-slice-aggregate-copy
 slice-aggregate-copy c = search needs
