@@ -56,7 +56,7 @@ passed-clear key nonce ad tooLong tooShort noRoom e =
 
 -- The tag, from the machine where the message begins.
 module _ (ed : Edition) (key nonce ad message : List ℕ) where
-  tag-run : run (run (begun ed key nonce ad) (bitsIn ed message)) (true ∷ []) .authenticator .accumulator ≡ run (initialised ed key nonce) (authenticated ed ad message) .authenticator .accumulator
+  pub tag-run : run (run (begun ed key nonce ad) (bitsIn ed message)) (true ∷ []) .authenticator .accumulator ≡ run (initialised ed key nonce) (authenticated ed ad message) .authenticator .accumulator
   unfolding begun authenticated
   tag-run =
       ap (λ (st : State). st .authenticator .accumulator)

@@ -43,13 +43,16 @@ by-form P n short one two =
       ]
     ]
 
--- A longer length takes no fewer bytes.
+-- A coded length has three bytes at most, and a longer length takes no fewer.
+pub coded-at-most : (n : ℕ) → length (codedLength n) ≤ 3
+coded-at-most n = by-form (λ c. length c ≤ 3) n (λ p. omega arith) (λ p q. omega arith) (λ p. omega arith)
+
 pub coded-grows : (m n : ℕ) → m ≤ n → length (codedLength m) ≤ length (codedLength n)
 coded-grows m n h =
     by-form (λ c. length (codedLength m) ≤ length c) n
     (λ p. by-form (λ c. length c ≤ 1) m (λ q. omega arith) (λ q r. omega arith) (λ q. omega arith))
     (λ p r. by-form (λ c. length c ≤ 2) m (λ q. omega arith) (λ q s. omega arith) (λ q. omega arith))
-    (λ p. by-form (λ c. length c ≤ 3) m (λ q. omega arith) (λ q r. omega arith) (λ q. omega arith))
+    (λ p. coded-at-most m)
 
 -- The number that bytes spell, by the first of them.
 value-cons : (x : ℕ) (s : List ℕ) → x < 256 → value (bits (x ∷ s)) ≡ x * 2 ^ length (bits s) + value (bits s)

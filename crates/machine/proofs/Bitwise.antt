@@ -1,13 +1,14 @@
 -- The machine over n bits of the string: the generator's two streams, and the authenticator over them.
 -- Assumes nothing.
-use mathlib.Core.Path.{_≡_, sym, ap, _∙_}
+use mathlib.Core.Path.{_≡_, refl, sym, ap, _∙_}
 use mathlib.Core.Bool.{Bool, true, false, cond}
 use mathlib.Core.List.{List, [], _∷_}
 use Prim.Native.Nat.{ℕ, _*_, _%_, _^_, _≤_}
 use native.Mathlib.Nat.{mod-mod}
 use native.Mathlib.Omega.{arith}
 use lib.Bits.{bitXor}
-use Rattle.bits.specs.Bytes.{word}
+use Rattle.bits.specs.Bit.{digit}
+use Rattle.bits.specs.Bytes.{word, lowest}
 use Rattle.bits.specs.Strings.{_⊞_, places}
 use Rattle.bits.specs.Times.{times}
 use Rattle.bits.proofs.Lowest.{word-xor}
@@ -15,7 +16,7 @@ use Rattle.bits.proofs.Word.{length-word, word-agrees}
 use Rattle.preoutput.specs.declared.Registers.{Registers}
 use Rattle.strokes.specs.declared.streams.Streamed.{Streamed}
 use Rattle.preoutput.specs.Algebra.{single}
-use Rattle.preoutput.specs.Generator.{Generator, plain, everySecond}
+use Rattle.preoutput.specs.Generator.{Generator, preoutput, plain, everySecond}
 use Rattle.preoutput.specs.Words.{generatorOf}
 use Rattle.strokes.specs.Streams.{Keystreams, Streams}
 use Rattle.bits.proofs.Slides.{lowest-bits}
@@ -68,6 +69,24 @@ bits-crypt n sealing e x k keystream =
 pub taken : (n : ℕ) (sealing b : Bool) (x y m : ℕ) → sealing ≡ b → m ≡ cond b x y → word n m ≡ cond sealing (word n x) (word n y)
 taken n sealing true x y m e p = ap (word n) p ∙ sym (ap (λ (d : Bool). cond d (word n x) (word n y)) e)
 taken n sealing false x y m e p = ap (word n) p ∙ sym (ap (λ (d : Bool). cond d (word n x) (word n y)) e)
+
+-- The engine after a single bit, from its two clocks.
+pub bit-run : (e : Engine) (m new : ℕ) (between after : Registers) (t : Tagger) → generatorOf between ≡ plain single (generatorOf (e .registers))
+    → new ≡ digit (preoutput single (generatorOf between)) → generatorOf after ≡ plain single (generatorOf between)
+    → authenticatorOf t ≡ absorb (authenticatorOf (e .tagger)) (lowest m) (lowest new)
+    → stateOf record { edition = e .edition; registers = after; tagger = t } ≡ run (stateOf e) (lowest m ∷ [])
+unfolding stateOf run step
+bit-run e m new between after t first output second absorbed = λ i. record {
+  edition = e .edition;
+  generator = (second ∙ ap (plain single) first) i;
+  authenticator =
+      (absorbed
+      ∙ ap (absorb (authenticatorOf (e .tagger)) (lowest m)) (ap lowest output ∙ lowest-digit (preoutput single (generatorOf between)) ∙ ap (preoutput single) first)) i;
+}
+  where
+    lowest-digit : (b : Bool) → lowest (digit b) ≡ b
+    lowest-digit true = refl
+    lowest-digit false = refl
 
 -- The final 1 adds the register.
 pub final-run : (e : Engine) → word 64 (bitXor (e .tagger .accumulator) (e .tagger .register)) ≡ run (stateOf e) (true ∷ []) .authenticator .accumulator

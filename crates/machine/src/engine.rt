@@ -2,7 +2,7 @@
 ghost use mathlib.Core.Path.{_≡_};
 ghost use mathlib.Core.Bool.{true};
 ghost use mathlib.Core.List.{_∷_, []};
-ghost use Rattle.bits.specs.Bytes.{word};
+ghost use Rattle.bits.specs.Bytes.{word, lowest};
 ghost use Rattle.preoutput.specs.Words.{generatorOf};
 ghost use Rattle.strokes.specs.Streams.{Streams};
 ghost use Rattle.machine.specs.Machine.{run};
@@ -10,6 +10,7 @@ ghost use Rattle.machine.specs.Engine.{stateOf, Crypts};
 use crate::edition::Edition;
 use authenticator::Tagger;
 use preoutput::Registers;
+use preoutput::plain;
 use strokes::streams;
 use strokes::streams::Streamed;
 
@@ -59,6 +60,20 @@ pub fn absorb_byte(e: Engine, m: u8) -> Engine
 {
     let c = crypt_byte(e, m, true);
     c.engine
+}
+
+// A single bit of the string, the lowest of `m`, whose keystream is dropped: two plain clocks.
+pub fn absorb_bit(e: Engine, m: u64) -> Engine
+    ensures { λ r. ⌜ stateOf r ≡ run (stateOf e) (lowest m ∷ []) ⌝ }
+{
+    let edition = e.edition;
+    let between = plain::clock(e.registers, 0, 0);
+    let new = plain::preoutput(between);
+    Engine {
+        edition,
+        registers: plain::clock(between, 0, 0),
+        tagger: authenticator::absorb(e.tagger, m, new),
+    }
 }
 
 // The machine after 32 bits of the string, the lowest of `m`, from their clocks.

@@ -17,7 +17,7 @@ use Rattle.payload.specs.AuthenticatedString.{header}
 use Rattle.payload.specs.Payload.{begun}
 
 -- What an engine carries.
-carried : (a : Engine) (st : State) → stateOf a ≡ st → a .edition ≡ st .edition
+pub carried : (a : Engine) (st : State) → stateOf a ≡ st → a .edition ≡ st .edition
 unfolding stateOf
 carried a st e = ap (λ (s : State). s .edition) e
 

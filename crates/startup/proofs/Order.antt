@@ -12,7 +12,7 @@ use Rattle.bits.specs.Bytes.{bit, word, Bytes, bits, bytes, flip}
 use Rattle.bits.specs.Strings.{_⊞_}
 use Rattle.bits.specs.Turned.{turned}
 use Rattle.bits.proofs.Flip.{Flips, length-flip, bits-flip, flip-flip, flip-twice, flip-append, sum-flip, flip-sum}
-use Rattle.bits.proofs.Packing.{bits-append, length-bits, length-bytes, bytes-bits, bits-bytes, bytes-are-bytes, bits-injective}
+use Rattle.bits.proofs.Packing.{bits-append, length-bits, length-bytes, bytes-bits, bits-bytes, bytes-append, bytes-are-bytes, bits-injective}
 use Rattle.bits.proofs.Sum.{length-sum}
 use Rattle.bits.proofs.Turned.{word-turned, bits-turned-twice, turned-all-twice, Bytes-turned}
 use Rattle.bits.proofs.Word.{length-word, getD-word}
@@ -108,6 +108,10 @@ module _ (e : Edition) where
   pub length-bytesIn : (n : ℕ) (s : List Bool) → length (bytesIn e n s) ≡ n
   unfolding bytesIn
   length-bytesIn n s = length-ordered e (bytes n s) ∙ length-bytes n s
+
+  pub bytesIn-append : (m n : ℕ) (s t : List Bool) → length s ≡ 8 * m → bytesIn e (m + n) (s ++ t) ≡ bytesIn e m s ++ bytesIn e n t
+  unfolding bytesIn
+  bytesIn-append m n s t h = ap (ordered e) (bytes-append m n s t h) ∙ ordered-append e (bytes m s) (bytes n t)
 
   pub bytesIn-are-bytes : (n : ℕ) (s : List Bool) → Bytes (bytesIn e n s)
   unfolding bytesIn

@@ -1,5 +1,5 @@
-// What differs between the editions: the order of bits in a byte, the clocks before those that fill accumulator and register, and what
-// these add.
+// What differs between the editions: the order of bits in a byte, the clocks before those that fill accumulator and register, what
+// these add, and the clock at which running starts.
 ghost use mathlib.Core.Path.{_≡_};
 ghost use mathlib.Core.List.{_∷_, []};
 ghost use Rattle.bits.specs.Bytes.{word};
@@ -66,5 +66,15 @@ pub fn filler(edition: Edition, key: u64) -> u64
     match edition {
         Edition::First => key,
         Edition::Second => 0,
+    }
+}
+
+// The clock at which running starts.
+pub fn running_from(edition: Edition) -> usize
+    ensures { λ r. ⌜ r ≡ editions.runningFrom edition ⌝ }
+{
+    match edition {
+        Edition::First => 384,
+        Edition::Second => 512,
     }
 }

@@ -1,12 +1,12 @@
 -- The machine over byte strings, one piece after the other.
 -- Assumes nothing.
-use mathlib.Core.Path.{_≡_, refl, sym, ap, _∙_}
+use mathlib.Core.Path.{_≡_, refl, sym, ap, ap₂, _∙_}
 use mathlib.Core.Bool.{Bool, true, false, cond}
 use mathlib.Core.List.{List, [], _∷_, _++_}
 use Prim.Native.Nat.{ℕ, _+_, _*_, _/_, _<_, _≤_}
 use native.Mathlib.Nat.{add-mul}
 use native.Mathlib.Omega.{arith}
-use lib.ListN.{length, getD, take, drop, take-append-drop}
+use lib.ListN.{length, getD, take, drop, take-append-drop, length-append}
 use lib.Seq.{drop-cons, take-add, length-take-le}
 use Rattle.bits.specs.Bit.{_⊻_}
 use Rattle.bits.specs.Bytes.{word}
@@ -20,7 +20,7 @@ use Rattle.machine.specs.Machine.{State, keystreamBit, step, run, crypt}
 use Rattle.machine.proofs.Machine.{run-append, length-crypt}
 use Rattle.machine.proofs.Clocks.{run-clocked}
 use Rattle.startup.specs.Editions.{bitsIn, bytesIn}
-use Rattle.startup.proofs.Order.{bitsIn-append}
+use Rattle.startup.proofs.Order.{bitsIn-append, length-bitsIn, bytesIn-append}
 
 -- The machine after the message whose bits are given or come out.
 unfoldable pub through : (sealing : Bool) → State → List Bool → State
@@ -41,6 +41,15 @@ through-append sealing st [] t = ap (λ (a : State). through sealing a t) (sym (
 through-append sealing st (x ∷ s) t =
     through-cons sealing st x (s ++ t) ∙ through-append sealing (step st (cond sealing x (x ⊻ keystreamBit st))) s t
     ∙ ap (λ (a : State). through sealing a t) (sym (through-cons sealing st x s))
+
+-- The bits that come out of one string after the other.
+pub crypt-append : (sealing : Bool) (st : State) (s t : List Bool) → crypt sealing st (s ++ t) ≡ crypt sealing st s ++ crypt sealing (through sealing st s) t
+unfolding crypt
+crypt-append sealing st [] t = ap (λ (a : State). crypt sealing a t) (sym (through-nil sealing st))
+crypt-append sealing st (x ∷ s) t =
+    let next = step st (cond sealing x (x ⊻ keystreamBit st)) in
+    ap (λ (l : List Bool). (x ⊻ keystreamBit st) ∷ l)
+    (crypt-append sealing next s t ∙ ap (λ (a : State). crypt sealing next s ++ crypt sealing a t) (sym (through-cons sealing st x s)))
 
 -- Whatever the message, as many clocks.
 pub through-clocked : (sealing : Bool) (st : State) (s : List Bool) → through sealing st s .generator ≡ times (2 * length s) (plain single) (st .generator)
@@ -86,6 +95,13 @@ module _ (e : Edition) (st : State) (x y : ℕ) {a b : State} (first : a ≡ run
 -- The bytes that come out.
 unfoldable pub cryptBytes : Edition → (sealing : Bool) → State → List ℕ → List ℕ
 cryptBytes e sealing st s = bytesIn e (length s) (crypt sealing st (bitsIn e s))
+
+pub cryptBytes-append : (e : Edition) (sealing : Bool) (st : State) (s t : List ℕ)
+    → cryptBytes e sealing st (s ++ t) ≡ cryptBytes e sealing st s ++ cryptBytes e sealing (through sealing st (bitsIn e s)) t
+unfolding cryptBytes
+cryptBytes-append e sealing st s t =
+    ap₂ (bytesIn e) (length-append s t) (ap (crypt sealing st) (bitsIn-append e s t) ∙ crypt-append sealing st (bitsIn e s) (bitsIn e t))
+    ∙ bytesIn-append e (length s) (length t) _ _ (length-crypt sealing st (bitsIn e s) ∙ length-bitsIn e s)
 
 -- The machine after bits that are the lowest of a number.
 pub crypts-through : {n : ℕ} {sealing : Bool} {st : State} {x y : ℕ} {r : Engine} {s : List Bool} → Crypts n sealing st x y r → word n x ≡ s → stateOf r ≡ through sealing st s
