@@ -1,0 +1,4 @@
+pub mod Stream
+pub mod Layout
+pub mod Words
+pub mod Laws
