@@ -1,0 +1,6 @@
+pub mod Going
+pub mod Calls
+pub mod Demand1
+pub mod Signed
+pub mod History
+pub mod Cutting
