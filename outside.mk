@@ -57,16 +57,16 @@ SHARED := $(OUT)/libtikhoplav.rlib
 MODEL := $(OUT)/libmodel.rlib
 EXTERNS := --extern tikhoplav=$(SHARED) --extern model=$(MODEL)
 
-$(SHARED): cli/lib.rs cli/archive.rs cli/frames.rs cli/hex.rs cli/sizes.rs cli/vectors.rs build/libtikhoplav.a
+$(SHARED): cli/lib.rs cli/archive.rs cli/frames.rs cli/hex.rs cli/pieces.rs cli/sizes.rs cli/vectors.rs build/libtikhoplav.a
 	$(RUST) --crate-type rlib --crate-name tikhoplav -L native=build -o $@ $<
 
 build/tikhoplav: cli/main.rs $(wildcard cli/*.rs) cli/help.txt include/tikhoplav.h $(SHARED)
 	TIKHOPLAV_VERSION=$(VERSION) $(RUST) -C strip=symbols --crate-name tool --extern tikhoplav=$(SHARED) -o $@ $<
 
-$(MODEL): tests/model.rs tests/model/frames.rs | $(OUT)
+$(MODEL): tests/model.rs $(wildcard tests/model/*.rs) | $(OUT)
 	$(RUST) --crate-type rlib --crate-name model -o $@ $<
 
-$(OUT)/harness: tests/harness/main.rs $(wildcard tests/harness/*.rs tests/harness/frames/*.rs) $(SHARED) $(MODEL)
+$(OUT)/harness: tests/harness/main.rs $(wildcard tests/harness/*.rs tests/harness/*/*.rs) $(SHARED) $(MODEL)
 	$(RUST) --crate-name harness $(EXTERNS) -o $@ $<
 
 # What the bench times beside the calls.

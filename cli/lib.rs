@@ -3,5 +3,6 @@
 pub mod archive;
 pub mod frames;
 pub mod hex;
+pub mod pieces;
 pub mod sizes;
 pub mod vectors;

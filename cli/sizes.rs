@@ -10,3 +10,4 @@ pub const IDENTIFIER_MAX: u32 = 0x1fff_ffff;
 pub const FRAME_MESSAGE_MAX: usize = 55;
 pub const LENGTH_CODE_MAX: u32 = 15;
 pub const FRAME_MAX: usize = 64;
+pub const STATE_SIZE: usize = 64;
