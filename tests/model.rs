@@ -3,6 +3,8 @@
 
 #[path = "model/frames.rs"]
 pub mod frames;
+#[path = "model/streams.rs"]
+pub mod streams;
 
 const KEY_SIZE: usize = 16;
 const NONCE_SIZE: usize = 12;
