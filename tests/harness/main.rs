@@ -14,6 +14,7 @@ mod parts;
 mod random;
 mod registers;
 mod sizes;
+mod streams;
 mod trial;
 mod two_tags;
 mod vectors;
@@ -91,6 +92,7 @@ fn run(seed: u64) -> Result<usize, String> {
         println!("edition {edition}");
         total += run_groups(&OF_EACH_EDITION, edition, seed)?;
         total += run_groups(&frames::OF_EACH_EDITION, edition, seed)?;
+        total += run_groups(&streams::OF_EACH_EDITION, edition, seed)?;
     }
     Ok(total)
 }
