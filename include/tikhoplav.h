@@ -1,6 +1,6 @@
 /*
  * Tikhoplav: Grain-128AEAD, both editions. Sealing and opening of whole byte strings; the two parts of a sealed one;
- * sealed CAN FD frames, which have a section of their own below.
+ * sealed CAN FD frames, and payloads that arrive in pieces, each with a section of its own below.
  *
  * Sealing enciphers a message under a key and a nonce, and appends a tag over the message and its associated data
  * (AD). Opening recomputes the tag, and hands out the message only if the tag is right. The AD is authenticated and
@@ -11,10 +11,10 @@
  * The two editions
  *
  *   Edition 1 is Grain-128AEAD, edition 2 is Grain-128AEADv2. A call whose name ends with _edition names the edition;
- *   the call whose name lacks that ending means edition 1. The two editions don't open one another: opening under the
- *   wrong one is like opening under a wrong key, and answers TIKHOPLAV_REFUSED_TAG_DIFFERS (a tag of 64 bits can't
- *   exclude that it fits by chance). Nothing in a payload or a frame tells its edition: both sides have to agree on it
- *   beforehand.
+ *   the call whose name lacks that ending means edition 1. (A stream keeps to the edition that it began under.) The two
+ *   editions don't open one another: opening under the wrong one is like opening under a wrong key, and answers
+ *   TIKHOPLAV_REFUSED_TAG_DIFFERS (a tag of 64 bits can't exclude that it fits by chance). Nothing in a payload or a
+ *   frame tells its edition: both sides have to agree on it beforehand.
  *
  *   Which one a partner's box is likely to speak: edition 2, if it says Grain-128AEADv2, or was written after about
  *   2021; that is what the designers sent to the last round of NIST's lightweight cryptography project, and what their
@@ -33,7 +33,8 @@
  *     running starts at clock       384                            512
  *
  *   The order of bits is that of key, nonce, coded length of the AD, AD, message, ciphertext and tag. No published
- *   vector of edition 2 was at hand to confirm its order: it rests on the designers' reference code.
+ *   vector of edition 2 was at hand to confirm its order: it rests on the designers' reference code. (The state of a
+ *   stream has an order of its own, which is the same under both editions.)
  *
  * What the archive needs
  *
@@ -49,15 +50,16 @@
  *
  * What the caller owes
  *
- *   - Each pointer leads to as many bytes as the length after it says: readable, and for `out` writable.
- *   - `out` overlaps none of the call's inputs. (The inputs are only read, and may overlap one another.)
+ *   - Each pointer leads to as many bytes as the length after it says: readable, and for `out` and `state` writable.
+ *   - `out` overlaps none of the call's inputs, and `state` none of the call's other buffers. (The inputs are only
+ *     read, and may overlap one another.)
  *   - A nonce is never used for two sealings under one key. If it is, secrecy is lost, and no call can notice it.
- *     Making a frame is a sealing.
+ *     Making a frame is a sealing, and so is a sealing stream.
  *   - The key is random and secret. Of the keys that can be guessed the calls notice one, 16 zero bytes (the blank
  *     key), and refuse it.
  *
- *   A slice of length 0 may have any pointer, NULL included: nothing is read or written through it. So an empty AD is
- *   NULL, 0; an empty message is NULL, 0; and the output of opening or reading an empty message may be NULL, 0.
+ *   A slice of length 0 may have any pointer, NULL included: nothing is read or written through it. So an empty AD,
+ *   message or piece is NULL, 0; and the output of opening or reading an empty message may be NULL, 0.
  *
  * What a call answers
  *
@@ -65,6 +67,9 @@
  *   the front of `out`; every byte of `out` behind them is untouched. A refusal is one of the negative numbers below,
  *   and then every byte of `out` is as it was before the call. In particular a wrong tag hands out no bit of the
  *   message: nothing is written until the tag is known to be right.
+ *
+ *   The calls on streams: success is the clocks so far, 400 or more. A refusal is one of the negative numbers too, and
+ *   then every byte of `state` and of `out` is as it was before the call.
  *
  *   tikhoplav_ciphertext_size: a length, 0 or more. It refuses nothing and writes nothing.
  *
@@ -95,10 +100,14 @@
  *   Versions before 3.3.0 have no frames. What stands in a frame between its first byte and its filler is a sealed
  *   payload like any other: they open it with the AD of the frame, under an edition that they have.
  *
+ *   Versions before 3.4.0 have no streams. What a sealing stream gives, ciphertext and tag, is a sealed payload like
+ *   any other: they open it, under an edition that they have.
+ *
  * What is not promised
  *
  *   How long a call takes. It grows with the lengths, and opening goes over the ciphertext twice; the tag is made by
- *   look-ups in a small table, at places that depend on the message. Nor does a call wipe the stack that it has used.
+ *   look-ups in a small table, at places that depend on the message. Nor does a call wipe the stack that it has used,
+ *   nor a stream its state.
  *
  * Example: a whole program (a real key is random and secret)
  *
@@ -128,7 +137,7 @@
 extern "C" {
 #endif
 
-#define TIKHOPLAV_VERSION "3.3.0"
+#define TIKHOPLAV_VERSION "3.4.0"
 
 /* The editions: Grain-128AEAD and Grain-128AEADv2. */
 #define TIKHOPLAV_EDITION_1 1
@@ -149,8 +158,9 @@ extern "C" {
  * Refusals of sealing and opening. The checks run in this order, which is not that of the numbers, and the first that
  * applies is the answer: a call with a short key and a long nonce answers -1, one with a blank key and too long an AD
  * answers -15, and an output that is too short answers -6 even where the tag is wrong too. An unknown edition answers
- * -23 whatever else is wrong. Making and reading a frame have some of these too, and five of their own: the section on
- * frames has theirs, in the order of their checks.
+ * -23 whatever else is wrong. Making and reading a frame have some of these too, and five of their own; the calls on
+ * streams have some, and two of their own. The sections on frames and on streams have theirs, in the order of their
+ * checks.
  */
 
 /* The calls that name an edition only: it is neither TIKHOPLAV_EDITION_1 nor TIKHOPLAV_EDITION_2. */
@@ -163,27 +173,30 @@ extern "C" {
 #define TIKHOPLAV_REFUSED_NONCE_SIZE (-2)
 
 /* The key is blank: all of its 16 bytes are zero, as in a buffer that no key was ever copied to. What to do: for
-   sealing and making draw a random key, for opening and reading take the key that was used to seal. (Zeros of another
-   length are TIKHOPLAV_REFUSED_KEY_SIZE.) */
+   sealing and making draw a random key, for opening, reading and checking take the key that was used to seal. (Zeros of
+   another length are TIKHOPLAV_REFUSED_KEY_SIZE.) */
 #define TIKHOPLAV_REFUSED_BLANK_KEY (-15)
 
 /* ad_len is over TIKHOPLAV_AD_MAX. */
 #define TIKHOPLAV_REFUSED_AD_TOO_LONG (-3)
 
-/* Sealing: message_len is over TIKHOPLAV_MESSAGE_MAX. Opening: sealed_len is over TIKHOPLAV_SEALED_MAX. */
+/* Sealing: message_len is over TIKHOPLAV_MESSAGE_MAX. Opening: sealed_len is over TIKHOPLAV_SEALED_MAX. A piece of
+   message or ciphertext: what the stream has taken of it and piece_len add up to more than TIKHOPLAV_MESSAGE_MAX. */
 #define TIKHOPLAV_REFUSED_MESSAGE_TOO_LONG (-4)
 
-/* Opening only: sealed_len is under TIKHOPLAV_TAG_SIZE. */
+/* Opening: sealed_len is under TIKHOPLAV_TAG_SIZE. Finishing a checking stream: tag_len is not TIKHOPLAV_TAG_SIZE,
+   under it or over. */
 #define TIKHOPLAV_REFUSED_SEALED_TOO_SHORT (-5)
 
 /* Sealing: out_len is under message_len + TIKHOPLAV_TAG_SIZE. Opening: out_len is under sealed_len -
    TIKHOPLAV_TAG_SIZE. Making a frame: out_len is under the length of the whole data field. Reading: out_len is under
-   the message length that the data field has. */
+   the message length that the data field has. A piece of the message: out_len is under piece_len. Finishing a sealing
+   stream: out_len is under TIKHOPLAV_TAG_SIZE. */
 #define TIKHOPLAV_REFUSED_OUTPUT_TOO_SHORT (-6)
 
-/* Opening and reading only: the tag is not the one that key, nonce, AD and ciphertext give under the edition. Any of
-   the four, or the tag, differs from what was sealed, or it was sealed under the other edition, or a version before
-   2.0.0 sealed it with an AD of 128 to 255 bytes; which cannot be told. */
+/* Opening, reading and finishing a checking stream only: the tag is not the one that key, nonce, AD and ciphertext give
+   under the edition. Any of the four, or the tag, differs from what was sealed, or it was sealed under the other
+   edition, or a version before 2.0.0 sealed it with an AD of 128 to 255 bytes; which cannot be told. */
 #define TIKHOPLAV_REFUSED_TAG_DIFFERS (-7)
 
 /*
@@ -444,6 +457,289 @@ int64_t tikhoplav_coded_length(uint32_t code);
  * Answers NOT_CODED_LENGTH if length is over TIKHOPLAV_FRAME_MAX, which no code holds.
  */
 int64_t tikhoplav_length_code(size_t length);
+
+/*
+ * Payloads that arrive in pieces
+ *
+ *   For payloads that don't fit into memory at once there are two streams, which take AD and message, or AD and
+ *   ciphertext, in pieces of any lengths. What lies between two calls is a state of 64 bytes, which are the caller's.
+ *
+ *   A sealing stream gives what sealing gives: the ciphertext piece by piece, and at the end the tag. Ciphertext and
+ *   tag, one after the other, are the sealed payload.
+ *
+ *   A checking stream tells what opening would say, and gives nothing: it takes the ciphertext piece by piece, and
+ *   accepts the tag exactly when opening the whole payload, with room for its message, succeeds. No byte of the message
+ *   is handed out, or stored in the state. Whoever wants the message opens the payload afterwards. What is opened must
+ *   then be the very ciphertext that was checked: of a ciphertext that was changed in between, or read anew from where
+ *   others can write to it, the check has said nothing. (Opening checks the tag itself.)
+ *
+ * The sequence of calls
+ *
+ *     sealing                             checking                             how often
+ *     tikhoplav_sealing_begin             tikhoplav_checking_begin             once; or the form that names an edition
+ *     tikhoplav_sealing_ad                tikhoplav_checking_ad                until the AD is complete
+ *     tikhoplav_sealing_message           tikhoplav_checking_ciphertext        until there is no more
+ *     tikhoplav_sealing_finish            tikhoplav_checking_finish            once
+ *
+ *   The AD's length is told at begin: the tag is over it, before the AD. The AD is complete when as many bytes were
+ *   taken; if its length is 0, that is so from the start. The length of the message is not told beforehand.
+ *
+ *   However AD and message are cut into pieces, ciphertext, tag and verdict are those of the call on whole strings.
+ *   Pieces may be empty: such a piece is taken wherever another may be, an empty one of the AD also where the AD is
+ *   complete, and changes nothing. A refused call changes nothing either, and the stream goes on from where it was.
+ *   So after TAG_DIFFERS a checking stream is still open, and finishing may be tried with another tag.
+ *
+ *   A begin may be called at any time, on any 64 bytes. It starts anew, and what they held is lost.
+ *
+ * The state
+ *
+ *     from place   bytes   what
+ *     0            16      the LFSR
+ *     16           16      the NFSR
+ *     32           8       the accumulator
+ *     40           8       the authenticator register
+ *     48           1       the kind: 1 sealing, 2 checking
+ *     49           1       the phase: 0 open, 1 finished
+ *     50           2       the length of the AD, as it was told at begin
+ *     52           2       how many bytes of the AD were taken
+ *     54           2       how many bytes of the message, or of the ciphertext, were taken
+ *     56           1       the edition: 1 or 2
+ *     57           7       zeros
+ *
+ *   Numbers of two bytes have the high byte first. The four registers have place 0 first, in the top bit of the first
+ *   byte, under both editions: the order of bits in which the editions differ is not that of the state. Between two
+ *   calls the registers are those of the machine after all bits of the authenticated string that were taken, after
+ *   finish the final 1 among them; the accumulator then is the tag, in the state's order of bits.
+ *
+ *   The state is plain bytes, without pointers and of any alignment. It may be stored, copied, moved and compared, and
+ *   a copy goes on from where it was made. It is as secret as the key: whoever has it can decipher all of the payload,
+ *   and make a tag for another. A finished one is no less secret. Wiping it is the caller's.
+ *
+ *   A state that can't occur is refused: with another length, kind, phase or edition; with more of the AD taken than
+ *   its length, or more of the message than TIKHOPLAV_MESSAGE_MAX; with some of the message taken, or finished, before
+ *   the AD is complete; with a byte behind place 56 that is not zero. The registers may hold anything. Damage to them,
+ *   or to the rest where it still can occur, no call can notice: ciphertext, tag and verdict are then no longer those
+ *   of the call on whole strings.
+ *
+ * What the calls on streams answer
+ *
+ *   A call that is accepted answers how many clocks the machine has made so far: those of start-up, 384 under edition 1
+ *   and 512 under edition 2, and two for each bit of the authenticated string that was taken. The bits of the coded AD
+ *   length (8, 16 or 24 of them) count at begin, those of a piece with the piece, and the final 1 at finish. The most
+ *   that there can be are 2032034 under edition 1, and 2032162 under edition 2.
+ *
+ * What the calls on streams refuse
+ *
+ *   The checks run in this order, and the first that applies is the answer.
+ *
+ *     begin                   ad                  message              ciphertext           finish
+ *     UNKNOWN_EDITION   -23
+ *     KEY_SIZE           -1
+ *     NONCE_SIZE         -2
+ *     BLANK_KEY         -15
+ *     AD_TOO_LONG        -3
+ *     UNSOUND_STATE     -14   UNSOUND_STATE -14   UNSOUND_STATE   -14  UNSOUND_STATE   -14  UNSOUND_STATE    -14
+ *                             OUT_OF_TURN   -13   OUT_OF_TURN     -13  OUT_OF_TURN     -13  OUT_OF_TURN      -13
+ *                                                 MESSAGE_TOO_LONG -4  MESSAGE_TOO_LONG -4
+ *                                                                                           SEALED_TOO_SHORT  -5  (c)
+ *                                                 OUTPUT_TOO_SHORT -6                       OUTPUT_TOO_SHORT  -6  (s)
+ *                                                                                           TAG_DIFFERS       -7  (c)
+ *
+ *   UNKNOWN_EDITION is only in the begins that name an edition. Of the finishes, (s) is in the sealing one alone, and
+ *   (c) in the checking one alone. A begin looks at the length of the state only, and not at what it holds.
+ *
+ * What the caller owes for streams
+ *
+ *   - All that is owed for sealing and opening.
+ *   - A state is used by one call at a time. Streams with states of their own may run in as many threads.
+ *   - A sealing stream whose state was copied goes on in one of the copies only. If it goes on in two with different
+ *     messages, that is one nonce for two sealings. (The same holds for a stored state that is restored twice, and for
+ *     a begin with the nonce of a stream that was given up.) A checking stream may go on in any number of copies.
+ *   - The nonce and the AD's length are no part of the payload, and neither is the edition.
+ *   - Nothing that a checking stream has taken is known to be genuine before finishing has accepted the tag.
+ *
+ * A whole program that seals and checks in pieces (a real key is random and secret)
+ *
+ *     #include <stdio.h>
+ *     #include <tikhoplav.h>
+ *
+ *     int main(void)
+ *     {
+ *         static const uint8_t key[TIKHOPLAV_KEY_SIZE] = "no real key", nonce[TIKHOPLAV_NONCE_SIZE] = "never twice";
+ *         static const uint8_t ad[] = { 0x07, 0xe8 }, message[] = "2400 rpm";
+ *         uint8_t sealed[sizeof message + TIKHOPLAV_TAG_SIZE], opened[sizeof message], state[TIKHOPLAV_STATE_SIZE];
+ *         uint8_t *tag = sealed + sizeof message;
+ *         size_t i;
+ *         int64_t n = tikhoplav_sealing_begin(state, sizeof state, key, sizeof key, nonce, sizeof nonce, sizeof ad);
+ *         if (n >= 0)
+ *             n = tikhoplav_sealing_ad(state, sizeof state, ad, sizeof ad);
+ *         for (i = 0; n >= 0 && i < sizeof message; i++)
+ *             n = tikhoplav_sealing_message(state, sizeof state, message + i, 1, sealed + i, 1);
+ *         if (n >= 0)
+ *             n = tikhoplav_sealing_finish(state, sizeof state, tag, TIKHOPLAV_TAG_SIZE);
+ *
+ *         // The other side has the payload, and checks it.
+ *         if (n >= 0)
+ *             n = tikhoplav_checking_begin(state, sizeof state, key, sizeof key, nonce, sizeof nonce, sizeof ad);
+ *         if (n >= 0)
+ *             n = tikhoplav_checking_ad(state, sizeof state, ad, sizeof ad);
+ *         for (i = 0; n >= 0 && i < sizeof message; i++)
+ *             n = tikhoplav_checking_ciphertext(state, sizeof state, sealed + i, 1);
+ *         if (n >= 0)
+ *             n = tikhoplav_checking_finish(state, sizeof state, tag, TIKHOPLAV_TAG_SIZE);
+ *
+ *         if (n >= 0)
+ *             n = tikhoplav_open(key, sizeof key, nonce, sizeof nonce, ad, sizeof ad,
+ *                                sealed, sizeof sealed, opened, sizeof opened);
+ *         return n < 0 ? (int)-n : puts((const char *)opened) == EOF;
+ *     }
+ */
+
+/* The size of a stream's state in bytes. */
+#define TIKHOPLAV_STATE_SIZE 64
+
+/* All calls but the begins: the stream is of the other kind, or it is finished. A piece of AD: it goes past the length
+   that was told at begin. A piece of message or ciphertext, and finishing: the AD is not complete. */
+#define TIKHOPLAV_REFUSED_OUT_OF_TURN (-13)
+
+/* state_len is not TIKHOPLAV_STATE_SIZE. All calls but the begins: or the state is one that can't occur, as in a buffer
+   that no begin was ever called on. */
+#define TIKHOPLAV_REFUSED_UNSOUND_STATE (-14)
+
+/*
+ * Begins a sealing stream with an AD of ad_len bytes, which come later.
+ *
+ * Writes all of state[0 .. TIKHOPLAV_STATE_SIZE - 1], whatever it held, and answers the clocks so far: 384 and two for
+ * each bit of the coded AD length, so 400, 416 or 432. Whenever the sizes are legal and the key is not blank, it
+ * succeeds.
+ *
+ * Otherwise it answers the first of these that applies, and writes nothing:
+ * KEY_SIZE, NONCE_SIZE, BLANK_KEY, AD_TOO_LONG, UNSOUND_STATE (if state_len is not TIKHOPLAV_STATE_SIZE).
+ */
+int64_t tikhoplav_sealing_begin(uint8_t *state, size_t state_len, const uint8_t *key, size_t key_len,
+                                const uint8_t *nonce, size_t nonce_len, size_t ad_len);
+
+/*
+ * Begins a sealing stream under an edition, TIKHOPLAV_EDITION_1 or TIKHOPLAV_EDITION_2, with an AD of ad_len bytes,
+ * which come later. With TIKHOPLAV_EDITION_1 it is tikhoplav_sealing_begin. The edition stands in the state, and the
+ * calls that follow go by it.
+ *
+ * Writes all of state[0 .. TIKHOPLAV_STATE_SIZE - 1], whatever it held, and answers the clocks so far: 384 under
+ * edition 1 or 512 under edition 2, and two for each bit of the coded AD length. Whenever the edition is one of the
+ * two, the sizes are legal and the key is not blank, it succeeds.
+ *
+ * Otherwise it answers the first of these that applies, and writes nothing:
+ * UNKNOWN_EDITION, KEY_SIZE, NONCE_SIZE, BLANK_KEY, AD_TOO_LONG, UNSOUND_STATE (if state_len is not
+ * TIKHOPLAV_STATE_SIZE).
+ */
+int64_t tikhoplav_sealing_begin_edition(uint32_t edition, uint8_t *state, size_t state_len,
+                                        const uint8_t *key, size_t key_len,
+                                        const uint8_t *nonce, size_t nonce_len, size_t ad_len);
+
+/*
+ * Takes piece[0 .. piece_len - 1] as the next bytes of the AD of a sealing stream.
+ *
+ * Writes the state with the piece taken, and answers the clocks so far: 16 * piece_len more than before. Whenever the
+ * state is that of an open sealing stream and the piece doesn't go past the length that was told at begin, it succeeds.
+ *
+ * Otherwise it answers the first of these that applies, and writes nothing:
+ * UNSOUND_STATE, OUT_OF_TURN.
+ */
+int64_t tikhoplav_sealing_ad(uint8_t *state, size_t state_len, const uint8_t *piece, size_t piece_len);
+
+/*
+ * Takes piece[0 .. piece_len - 1] as the next bytes of the message of a sealing stream, whose AD is complete.
+ *
+ * Writes the ciphertext of the piece to out[0 .. piece_len - 1] and nothing behind it, writes the state with the piece
+ * taken, and answers the clocks so far: 16 * piece_len more than before. Whenever the state is that of an open sealing
+ * stream with its whole AD, the message stays within TIKHOPLAV_MESSAGE_MAX and out_len is at least piece_len, it
+ * succeeds.
+ *
+ * Otherwise it answers the first of these that applies, and writes nothing:
+ * UNSOUND_STATE, OUT_OF_TURN, MESSAGE_TOO_LONG, OUTPUT_TOO_SHORT.
+ */
+int64_t tikhoplav_sealing_message(uint8_t *state, size_t state_len, const uint8_t *piece, size_t piece_len,
+                                  uint8_t *out, size_t out_len);
+
+/*
+ * Ends a sealing stream, whose AD is complete. The message is what was taken of it, which may be nothing.
+ *
+ * Writes the tag to out[0 .. TIKHOPLAV_TAG_SIZE - 1] and nothing behind it, writes the state as finished, and answers
+ * the clocks of the whole job: 2 more than before. Whenever the state is that of an open sealing stream with its whole
+ * AD and out_len is at least TIKHOPLAV_TAG_SIZE, it succeeds. From then on all calls on this state but a begin answer
+ * OUT_OF_TURN.
+ *
+ * Otherwise it answers the first of these that applies, and writes nothing:
+ * UNSOUND_STATE, OUT_OF_TURN, OUTPUT_TOO_SHORT.
+ */
+int64_t tikhoplav_sealing_finish(uint8_t *state, size_t state_len, uint8_t *out, size_t out_len);
+
+/*
+ * Begins a checking stream with an AD of ad_len bytes, which come later.
+ *
+ * Writes all of state[0 .. TIKHOPLAV_STATE_SIZE - 1], whatever it held, and answers the clocks so far: 384 and two for
+ * each bit of the coded AD length, so 400, 416 or 432. Whenever the sizes are legal and the key is not blank, it
+ * succeeds.
+ *
+ * Otherwise it answers the first of these that applies, and writes nothing:
+ * KEY_SIZE, NONCE_SIZE, BLANK_KEY, AD_TOO_LONG, UNSOUND_STATE (if state_len is not TIKHOPLAV_STATE_SIZE).
+ */
+int64_t tikhoplav_checking_begin(uint8_t *state, size_t state_len, const uint8_t *key, size_t key_len,
+                                 const uint8_t *nonce, size_t nonce_len, size_t ad_len);
+
+/*
+ * Begins a checking stream under an edition, TIKHOPLAV_EDITION_1 or TIKHOPLAV_EDITION_2, with an AD of ad_len bytes,
+ * which come later. With TIKHOPLAV_EDITION_1 it is tikhoplav_checking_begin. The edition stands in the state, and the
+ * calls that follow go by it.
+ *
+ * Writes all of state[0 .. TIKHOPLAV_STATE_SIZE - 1], whatever it held, and answers the clocks so far: 384 under
+ * edition 1 or 512 under edition 2, and two for each bit of the coded AD length. Whenever the edition is one of the
+ * two, the sizes are legal and the key is not blank, it succeeds.
+ *
+ * Otherwise it answers the first of these that applies, and writes nothing:
+ * UNKNOWN_EDITION, KEY_SIZE, NONCE_SIZE, BLANK_KEY, AD_TOO_LONG, UNSOUND_STATE (if state_len is not
+ * TIKHOPLAV_STATE_SIZE).
+ */
+int64_t tikhoplav_checking_begin_edition(uint32_t edition, uint8_t *state, size_t state_len,
+                                         const uint8_t *key, size_t key_len,
+                                         const uint8_t *nonce, size_t nonce_len, size_t ad_len);
+
+/*
+ * Takes piece[0 .. piece_len - 1] as the next bytes of the AD of a checking stream.
+ *
+ * Writes the state with the piece taken, and answers the clocks so far: 16 * piece_len more than before. Whenever the
+ * state is that of an open checking stream and the piece doesn't go past the length that was told at begin, it
+ * succeeds.
+ *
+ * Otherwise it answers the first of these that applies, and writes nothing:
+ * UNSOUND_STATE, OUT_OF_TURN.
+ */
+int64_t tikhoplav_checking_ad(uint8_t *state, size_t state_len, const uint8_t *piece, size_t piece_len);
+
+/*
+ * Takes piece[0 .. piece_len - 1] as the next bytes of the ciphertext of a checking stream, whose AD is complete. The
+ * tag is no part of the ciphertext: it goes to tikhoplav_checking_finish.
+ *
+ * Writes the state with the piece taken, and answers the clocks so far: 16 * piece_len more than before. Whenever the
+ * state is that of an open checking stream with its whole AD and the ciphertext stays within TIKHOPLAV_MESSAGE_MAX, it
+ * succeeds.
+ *
+ * Otherwise it answers the first of these that applies, and writes nothing:
+ * UNSOUND_STATE, OUT_OF_TURN, MESSAGE_TOO_LONG.
+ */
+int64_t tikhoplav_checking_ciphertext(uint8_t *state, size_t state_len, const uint8_t *piece, size_t piece_len);
+
+/*
+ * Ends a checking stream, whose AD is complete, if tag[0 .. tag_len - 1] is its tag. The ciphertext is what was taken
+ * of it, which may be nothing.
+ *
+ * If the tag is right, writes the state as finished, and answers the clocks of the whole job: 2 more than before. From
+ * then on all calls on this state but a begin answer OUT_OF_TURN.
+ *
+ * Otherwise it answers the first of these that applies, and writes nothing:
+ * UNSOUND_STATE, OUT_OF_TURN, SEALED_TOO_SHORT (if tag_len is not TIKHOPLAV_TAG_SIZE), TAG_DIFFERS.
+ */
+int64_t tikhoplav_checking_finish(uint8_t *state, size_t state_len, const uint8_t *tag, size_t tag_len);
 
 #ifdef __cplusplus
 }

@@ -28,5 +28,6 @@ example() { # HEADING: the program that stands below it in the header builds and
 
 example 'Example: a whole program'
 example 'A whole program that makes and reads a frame'
+example 'A whole program that seals and checks in pieces'
 "$prefix/bin/tikhoplav" selftest >"$scratch/selftest" || fail "the installed tool fails its selftest"
 echo "the header's examples build and run, and the tool passes its selftest"
