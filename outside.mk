@@ -77,12 +77,12 @@ $(OUT)/libprobes.a: crates.txt $(PROVED) $(shell find crates/probes -type f) | $
 $(OUT)/bench: bench/main.rs $(wildcard bench/*.rs) $(SHARED) $(MODEL) $(OUT)/libprobes.a
 	$(RUST) --crate-name bench $(EXTERNS) -L native=$(OUT) -o $@ $<
 
-# Two C programs: as C and as C++ with sanitizers, and without them for valgrind, which sees into the archive too.
+# The C programs: as C and as C++ with sanitizers, and without them for valgrind, which sees into the archive too.
 WARNINGS := -Wall -Wextra -Wpedantic -Wshadow -Wconversion -Wsign-conversion -Wcast-qual -Wundef -Werror
 C99 := $(CC) -std=c99 $(WARNINGS) -Wstrict-prototypes -Wmissing-prototypes -Wc++-compat -Iinclude
 CXX11 := $(CXX) -std=c++11 $(WARNINGS) -Iinclude -x c++
 SANITIZE := -O1 -g -fsanitize=address,undefined -fno-sanitize-recover=all
-PROGRAMS := calls frames
+PROGRAMS := calls frames streams
 TRIED := $(foreach program,$(PROGRAMS),$(addprefix $(OUT)/$(program)-,c c++ plain))
 
 $(TRIED): tests/checks.h include/tikhoplav.h build/libtikhoplav.a
@@ -92,13 +92,13 @@ $(OUT)/stack: tests/stack.c include/tikhoplav.h build/libtikhoplav.a
 	$(C99) -Wl,-z,now $< build/libtikhoplav.a -o $@
 
 $(OUT)/%-c: tests/%.c
-	$(C99) $(SANITIZE) $< build/libtikhoplav.a -o $@
+	$(C99) $(SANITIZE) -pthread $< build/libtikhoplav.a -o $@
 
 $(OUT)/%-c++: tests/%.c
-	$(CXX11) $(SANITIZE) $< -x none build/libtikhoplav.a -o $@
+	$(CXX11) $(SANITIZE) -pthread $< -x none build/libtikhoplav.a -o $@
 
 $(OUT)/%-plain: tests/%.c
-	$(C99) -g $< build/libtikhoplav.a -o $@
+	$(C99) -g -pthread $< build/libtikhoplav.a -o $@
 
 # The model's comparisons take as long as all the others: they run beside them.
 outside-test: have-c++ outside-build $(TRIED) $(OUT)/stack $(OUT)/harness
