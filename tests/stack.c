@@ -1,6 +1,7 @@
 /* How much stack the calls take. They run on a stack that is filled with a pattern, and what they leave of it is
    counted. */
 #include <stdio.h>
+#include <stdlib.h>
 #include <string.h>
 #include <ucontext.h>
 
@@ -16,7 +17,12 @@ static uint8_t key[TIKHOPLAV_KEY_SIZE] = { 1 }, blank[TIKHOPLAV_KEY_SIZE];
 static uint8_t nonce[TIKHOPLAV_NONCE_SIZE], ad[TIKHOPLAV_AD_MAX];
 static uint8_t message[TIKHOPLAV_MESSAGE_MAX], sealed[TIKHOPLAV_SEALED_MAX];
 static uint8_t field[TIKHOPLAV_FRAME_MAX], frame_message[TIKHOPLAV_FRAME_MESSAGE_MAX];
+static uint8_t state[TIKHOPLAV_STATE_SIZE], tag[TIKHOPLAV_TAG_SIZE];
 static int64_t answer;
+
+/* What the next call on a stream is given: the edition, and the length of AD, piece, output or tag. */
+static uint32_t edition;
+static size_t len;
 
 static void no_call(void)
 {
@@ -168,6 +174,87 @@ static void code_of_the_largest_frame(void)
     answer = tikhoplav_length_code(sizeof field);
 }
 
+static void begin_sealing(void)
+{
+    answer = tikhoplav_sealing_begin(state, sizeof state, key, sizeof key, nonce, sizeof nonce, len);
+}
+
+static void begin_checking(void)
+{
+    answer = tikhoplav_checking_begin(state, sizeof state, key, sizeof key, nonce, sizeof nonce, len);
+}
+
+static void begin_sealing_under_the_edition(void)
+{
+    answer = tikhoplav_sealing_begin_edition(edition, state, sizeof state, key, sizeof key, nonce, sizeof nonce, len);
+}
+
+static void begin_checking_under_the_edition(void)
+{
+    answer = tikhoplav_checking_begin_edition(edition, state, sizeof state, key, sizeof key, nonce, sizeof nonce, len);
+}
+
+static void begin_sealing_under_no_edition(void)
+{
+    answer = tikhoplav_sealing_begin_edition(0, state, sizeof state, key, sizeof key, nonce, sizeof nonce, len);
+}
+
+static void begin_checking_under_no_edition(void)
+{
+    answer = tikhoplav_checking_begin_edition(3, state, sizeof state, key, sizeof key, nonce, sizeof nonce, len);
+}
+
+static void begin_sealing_in_a_short_state(void)
+{
+    answer = tikhoplav_sealing_begin(state, sizeof state - 1, key, sizeof key, nonce, sizeof nonce, len);
+}
+
+static void begin_checking_under_the_blank_key(void)
+{
+    answer = tikhoplav_checking_begin(state, sizeof state, blank, sizeof blank, nonce, sizeof nonce, len);
+}
+
+static void sealing_ad(void)
+{
+    answer = tikhoplav_sealing_ad(state, sizeof state, ad, len);
+}
+
+static void checking_ad(void)
+{
+    answer = tikhoplav_checking_ad(state, sizeof state, ad, len);
+}
+
+/* The message is the front of the AD's bytes, which are more than a message may have. */
+static void sealing_message(void)
+{
+    answer = tikhoplav_sealing_message(state, sizeof state, ad, len, sealed, sizeof sealed);
+}
+
+static void sealing_message_without_room(void)
+{
+    answer = tikhoplav_sealing_message(state, sizeof state, ad, len, NULL, 0);
+}
+
+static void checking_ciphertext(void)
+{
+    answer = tikhoplav_checking_ciphertext(state, sizeof state, sealed, len);
+}
+
+static void sealing_finish(void)
+{
+    answer = tikhoplav_sealing_finish(state, sizeof state, tag, len);
+}
+
+static void checking_finish(void)
+{
+    answer = tikhoplav_checking_finish(state, sizeof state, tag, len);
+}
+
+static void checking_finish_with_another_tag(void)
+{
+    answer = tikhoplav_checking_finish(state, sizeof state, key, len);
+}
+
 typedef struct {
     void (*run)(void);
     int64_t expected;
@@ -204,6 +291,69 @@ static const trial trials[] = {
     { code_of_the_largest_frame, TIKHOPLAV_LENGTH_CODE_MAX },
 };
 
+typedef struct {
+    void (*run)(void);
+    size_t len;
+    int64_t expected;
+} stream_trial;
+
+/* On a state of zeros, and begins that name no edition. */
+static const stream_trial stream_trials[] = {
+    { sealing_ad, 0, TIKHOPLAV_REFUSED_UNSOUND_STATE },
+    { checking_ad, 0, TIKHOPLAV_REFUSED_UNSOUND_STATE },
+    { sealing_message, 0, TIKHOPLAV_REFUSED_UNSOUND_STATE },
+    { checking_ciphertext, 0, TIKHOPLAV_REFUSED_UNSOUND_STATE },
+    { sealing_finish, 0, TIKHOPLAV_REFUSED_UNSOUND_STATE },
+    { checking_finish, 0, TIKHOPLAV_REFUSED_UNSOUND_STATE },
+    { begin_sealing_under_no_edition, 0, TIKHOPLAV_REFUSED_UNKNOWN_EDITION },
+    { begin_checking_under_no_edition, 0, TIKHOPLAV_REFUSED_UNKNOWN_EDITION },
+    { begin_checking_under_the_blank_key, 0, TIKHOPLAV_REFUSED_BLANK_KEY },
+    { begin_sealing, TIKHOPLAV_AD_MAX + 1, TIKHOPLAV_REFUSED_AD_TOO_LONG },
+    { begin_sealing_in_a_short_state, 0, TIKHOPLAV_REFUSED_UNSOUND_STATE },
+    { begin_sealing, 0, 400 },
+    { begin_sealing, TIKHOPLAV_AD_MAX, 432 },
+    { begin_checking, 0, 400 },
+    { begin_checking, TIKHOPLAV_AD_MAX, 432 },
+};
+
+/* Streams under each edition: nothing, and the largest job, sealed and checked. What is expected where a call is
+   accepted is the clocks without start-up. */
+static const stream_trial stream_trials_of_each_edition[] = {
+    { begin_sealing_under_the_edition, 0, 16 },
+    { sealing_ad, 0, 16 },
+    { sealing_ad, 1, TIKHOPLAV_REFUSED_OUT_OF_TURN },
+    { sealing_message, 0, 16 },
+    { checking_ciphertext, 0, TIKHOPLAV_REFUSED_OUT_OF_TURN },
+    { sealing_finish, TIKHOPLAV_TAG_SIZE - 1, TIKHOPLAV_REFUSED_OUTPUT_TOO_SHORT },
+    { sealing_finish, TIKHOPLAV_TAG_SIZE, 18 },
+    { sealing_finish, TIKHOPLAV_TAG_SIZE, TIKHOPLAV_REFUSED_OUT_OF_TURN },
+    { begin_checking_under_the_edition, 0, 16 },
+    { checking_ad, 0, 16 },
+    { checking_ciphertext, 0, 16 },
+    { sealing_message, 0, TIKHOPLAV_REFUSED_OUT_OF_TURN },
+    { checking_finish, TIKHOPLAV_TAG_SIZE, 18 },
+    { begin_sealing_under_the_edition, TIKHOPLAV_AD_MAX, 48 },
+    { sealing_message, 1, TIKHOPLAV_REFUSED_OUT_OF_TURN },
+    { sealing_ad, 1, 64 },
+    { sealing_ad, TIKHOPLAV_AD_MAX - 1, 1048608 },
+    { sealing_message, 1, 1048624 },
+    { sealing_message, TIKHOPLAV_MESSAGE_MAX, TIKHOPLAV_REFUSED_MESSAGE_TOO_LONG },
+    { sealing_message_without_room, 1, TIKHOPLAV_REFUSED_OUTPUT_TOO_SHORT },
+    { begin_sealing_under_the_edition, TIKHOPLAV_AD_MAX, 48 },
+    { sealing_ad, TIKHOPLAV_AD_MAX, 1048608 },
+    { sealing_message, TIKHOPLAV_MESSAGE_MAX, 2031648 },
+    { sealing_finish, TIKHOPLAV_TAG_SIZE, 2031650 },
+    { begin_checking_under_the_edition, TIKHOPLAV_AD_MAX, 48 },
+    { checking_ad, 1, 64 },
+    { checking_ad, TIKHOPLAV_AD_MAX, TIKHOPLAV_REFUSED_OUT_OF_TURN },
+    { checking_ad, TIKHOPLAV_AD_MAX - 1, 1048608 },
+    { checking_ciphertext, TIKHOPLAV_MESSAGE_MAX, 2031648 },
+    { checking_ciphertext, 1, TIKHOPLAV_REFUSED_MESSAGE_TOO_LONG },
+    { checking_finish, TIKHOPLAV_TAG_SIZE - 1, TIKHOPLAV_REFUSED_SEALED_TOO_SHORT },
+    { checking_finish_with_another_tag, TIKHOPLAV_TAG_SIZE, TIKHOPLAV_REFUSED_TAG_DIFFERS },
+    { checking_finish, TIKHOPLAV_TAG_SIZE, 2031650 },
+};
+
 /* The bytes from the lowest one that is not as it was filled up to the top. */
 static size_t used(void (*run)(void))
 {
@@ -222,21 +372,57 @@ static size_t used(void (*run)(void))
     return sizeof stack - left;
 }
 
+/* What a call takes beside what is taken without one. It has to answer this. */
+static size_t taken(void (*run)(void), int64_t expected, const char *table, size_t number)
+{
+    size_t without = used(no_call), with = used(run);
+
+    if (answer != expected) {
+        fprintf(stderr, "tests/stack.c: call %zu of %s answers %lld\n", number, table, (long long)answer);
+        exit(1);
+    }
+    return with - without;
+}
+
+static size_t larger(size_t a, size_t b)
+{
+    return a > b ? a : b;
+}
+
+static size_t most_of_trials(void)
+{
+    size_t i, most = 0;
+
+    for (i = 0; i < sizeof trials / sizeof *trials; i++)
+        most = larger(most, taken(trials[i].run, trials[i].expected, "trials", i));
+    return most;
+}
+
+/* The start-up's clocks are added to what is expected of a call that is accepted. */
+static size_t most_of_streams(const stream_trial *table, size_t count, int64_t start_up)
+{
+    size_t i, most = 0;
+    int64_t expected;
+
+    for (i = 0; i < count; i++) {
+        len = table[i].len;
+        expected = table[i].expected;
+        most = larger(most, taken(table[i].run, expected < 0 ? expected : expected + start_up, "a stream", i));
+    }
+    return most;
+}
+
 int main(void)
 {
-    size_t i, taken, most = 0, without = used(no_call);
+    const size_t once = sizeof stream_trials / sizeof *stream_trials;
+    const size_t each = sizeof stream_trials_of_each_edition / sizeof *stream_trials_of_each_edition;
+    size_t others = most_of_trials(), streams = most_of_streams(stream_trials, once, 0);
 
-    for (i = 0; i < sizeof trials / sizeof *trials; i++) {
-        taken = used(trials[i].run) - without;
-        if (answer != trials[i].expected) {
-            fprintf(stderr, "tests/stack.c: call %zu answers %lld\n", i, (long long)answer);
-            return 1;
-        }
-        if (taken > most)
-            most = taken;
-    }
-    printf("at most %zu bytes\n", most);
-    if (most > ENOUGH) {
+    for (edition = TIKHOPLAV_EDITION_1; edition <= TIKHOPLAV_EDITION_2; edition++)
+        streams = larger(streams, most_of_streams(stream_trials_of_each_edition, each,
+                                                  edition == TIKHOPLAV_EDITION_1 ? 384 : 512));
+    printf("at most %zu bytes; in the calls on streams, %zu\n", larger(others, streams), streams);
+    if (larger(others, streams) > ENOUGH) {
         fprintf(stderr, "tests/stack.c: the header says %d\n", ENOUGH);
         return 1;
     }

@@ -419,6 +419,12 @@ static void ad_length_of_all_bits(stream *s)
     s->ad_len = (size_t)-1;
 }
 
+/* Legal, were it cut to 32 bits. */
+static void ad_length_of_33_bits(stream *s)
+{
+    s->ad_len |= (size_t)1 << 32;
+}
+
 static void byte_63(stream *s)
 {
     s->state.bytes[63] = 0x80;
@@ -531,6 +537,7 @@ static const fault faults_of_begin[] = {
     { blank_key, TIKHOPLAV_REFUSED_BLANK_KEY },
     { long_ad, TIKHOPLAV_REFUSED_AD_TOO_LONG },
     { ad_length_of_all_bits, TIKHOPLAV_REFUSED_AD_TOO_LONG },
+    { ad_length_of_33_bits, TIKHOPLAV_REFUSED_AD_TOO_LONG },
     { short_state, TIKHOPLAV_REFUSED_UNSOUND_STATE },
     { long_state, TIKHOPLAV_REFUSED_UNSOUND_STATE },
     { no_state, TIKHOPLAV_REFUSED_UNSOUND_STATE },
@@ -661,11 +668,35 @@ static void all_refusals(const calls *c)
 }
 
 /* A piece of AD, a piece of data and a finish are refused. */
+static void all_refused(const calls *c, const stream *s, int64_t answer)
+{
+    refused(c->ad, s, answer);
+    refused(c->data, s, answer);
+    refused(c->finish, s, answer);
+}
+
 static void out_of_turn(const calls *c, const stream *s)
 {
-    refused(c->ad, s, TIKHOPLAV_REFUSED_OUT_OF_TURN);
-    refused(c->data, s, TIKHOPLAV_REFUSED_OUT_OF_TURN);
-    refused(c->finish, s, TIKHOPLAV_REFUSED_OUT_OF_TURN);
+    all_refused(c, s, TIKHOPLAV_REFUSED_OUT_OF_TURN);
+}
+
+/* Counts that can't occur together: finished, or with some of the message, before the AD is complete; and a byte over
+   the limit. */
+static void unsound_counts(const calls *c)
+{
+    stream s = before_ad(c);
+
+    s.state.bytes[49] = 1;
+    all_refused(c, &s, TIKHOPLAV_REFUSED_UNSOUND_STATE);
+    s.state.bytes[49] = 0;
+    s.state.bytes[55] = 1;
+    all_refused(c, &s, TIKHOPLAV_REFUSED_UNSOUND_STATE);
+    release(&s);
+    s = before_data(c);
+    s.state.bytes[54] = (TIKHOPLAV_MESSAGE_MAX + 1) >> 8;
+    s.state.bytes[55] = (TIKHOPLAV_MESSAGE_MAX + 1) & 0xff;
+    all_refused(c, &s, TIKHOPLAV_REFUSED_UNSOUND_STATE);
+    release(&s);
 }
 
 /* In each place of a stream, the calls of the other kind; before the AD is complete, what comes after it; after finish,
@@ -682,6 +713,8 @@ static void wrong_order(const calls *c)
     CHECK(c->ad(&s) == clocks(c, AD_LEN, AD_LEN - 1));
     out_of_turn(other, &s);
     out_of_turn(c, &s);
+    s.piece.len = 0;
+    refused(c->data, &s, TIKHOPLAV_REFUSED_OUT_OF_TURN);
     release(&s);
     s = before_end(c);
     out_of_turn(other, &s);
@@ -703,9 +736,7 @@ static void any_bytes(const calls *c)
 
     for (byte = 0; byte < 256; byte += 17) {
         memset(s.state.bytes, (int)byte, s.state.len);
-        refused(c->ad, &s, TIKHOPLAV_REFUSED_UNSOUND_STATE);
-        refused(c->data, &s, TIKHOPLAV_REFUSED_UNSOUND_STATE);
-        refused(c->finish, &s, TIKHOPLAV_REFUSED_UNSOUND_STATE);
+        all_refused(c, &s, TIKHOPLAV_REFUSED_UNSOUND_STATE);
         CHECK(c->begin(&s) == clocks(c, AD_LEN, 0));
         CHECK(same(s.state, other.state));
     }
@@ -857,11 +888,11 @@ static void *work(void *argument)
         w->held = step(w, w->c->data, w->data, done) && w->held;
     w->s.piece.bytes = w->s.out.bytes = w->made.bytes + w->data.len;
     w->s.piece.len = w->s.out.len = TIKHOPLAV_TAG_SIZE;
-    w->held = w->c->finish(&w->s) > 0 && w->held;
+    w->held = w->c->finish(&w->s) == clocks(w->c, w->ad.len, w->ad.len + w->data.len) + 2 && w->held;
     return NULL;
 }
 
-enum { THREADS = 12, THREAD_AD = 500, THREAD_MESSAGE = 2000 };
+enum { THREADS = 12, THREAD_AD = 500, THREAD_MESSAGE = 2500 };
 
 /* What it needs: for sealing the message and room for the payload, for checking the payload. */
 static void prepare(worker *w, size_t number)
@@ -950,6 +981,7 @@ int main(void)
         cuttings(&all[i]);
         all_refusals(&all[i]);
         wrong_order(&all[i]);
+        unsound_counts(&all[i]);
         any_bytes(&all[i]);
         still_open(&all[i]);
         longer_outputs(&all[i]);
