@@ -12,39 +12,39 @@ use tikhoplav::sizes::{AD_MAX, TAG_SIZE};
 const SHORT_SCRIPTS: usize = 40_000;
 const LONG_SCRIPTS: usize = 400;
 
-/// How long a script's pieces are.
+/// What a script's AD, pieces and count of random calls stay below.
 #[derive(Clone, Copy)]
-struct Lengths {
+struct Bounds {
     ad: usize,
     piece: usize,
     calls: usize,
 }
 
 pub fn short(judge: &mut Judge) -> Verdict {
-    let lengths = Lengths {
+    let bounds = Bounds {
         ad: 12,
         piece: 8,
         calls: 30,
     };
-    (0..SHORT_SCRIPTS).try_for_each(|_| script(judge, lengths))
+    (0..SHORT_SCRIPTS).try_for_each(|_| script(judge, bounds))
 }
 
 pub fn long(judge: &mut Judge) -> Verdict {
-    let lengths = Lengths {
+    let bounds = Bounds {
         ad: 600,
         piece: 400,
         calls: 100,
     };
-    (0..LONG_SCRIPTS).try_for_each(|_| script(judge, lengths))
+    (0..LONG_SCRIPTS).try_for_each(|_| script(judge, bounds))
 }
 
 /// Random calls, then the rest of the AD and the finish, and a call after it.
-fn script(judge: &mut Judge, lengths: Lengths) -> Verdict {
+fn script(judge: &mut Judge, bounds: Bounds) -> Verdict {
     let kind = judge.random.pick(&KINDS);
-    let ad_len = judge.random.below(lengths.ad);
+    let ad_len = judge.random.below(bounds.ad);
     let mut stream = judge.begun(kind, ad_len)?;
-    for _ in 0..judge.random.below(lengths.calls) {
-        let call = random_call(judge, &stream, lengths);
+    for _ in 0..judge.random.below(bounds.calls) {
+        let call = random_call(judge, &stream, bounds);
         match judge.random.below(6) {
             0 => {
                 let damaged = damaged(judge, &stream.state);
@@ -68,14 +68,14 @@ fn script(judge: &mut Judge, lengths: Lengths) -> Verdict {
     Ok(())
 }
 
-fn random_call(judge: &mut Judge, stream: &Stream, lengths: Lengths) -> StreamCall {
+fn random_call(judge: &mut Judge, stream: &Stream, bounds: Bounds) -> StreamCall {
     let kind = match judge.random.below(8) {
         0 => other(stream.kind),
         _ => stream.kind,
     };
     match judge.random.below(24) {
         0 => {
-            let ad_len = judge.random.below(lengths.ad);
+            let ad_len = judge.random.below(bounds.ad);
             judge.begin(kind, ad_len)
         }
         1..3 => refused_begin(judge, kind),
@@ -83,7 +83,7 @@ fn random_call(judge: &mut Judge, stream: &Stream, lengths: Lengths) -> StreamCa
             let length = judge.random.below(stream.ad_left() + 3);
             judge.ad(kind, length)
         }
-        12..21 => random_data(judge, kind, lengths.piece),
+        12..21 => random_data(judge, kind, bounds.piece),
         _ => random_finish(judge, kind, stream),
     }
 }
