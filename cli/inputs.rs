@@ -3,7 +3,8 @@
 use crate::edition::Edition;
 use crate::failure::Failure;
 use crate::options::Options;
-use crate::streams;
+use crate::streams::Source;
+use std::ffi::OsStr;
 use tikhoplav::hex;
 
 /// The cipher as it is asked for.
@@ -45,31 +46,59 @@ fn required(options: &Options, as_hex: &str, as_file: &str) -> Result<Vec<u8>, F
         .ok_or_else(|| Failure::Usage(format!("{as_hex} or {as_file} is needed")))
 }
 
-/// Bytes given in hex or as a file.
 fn either(options: &Options, as_hex: &str, as_file: &str) -> Result<Option<Vec<u8>>, Failure> {
-    match (options.value(as_hex), options.value(as_file)) {
-        (Some(_), Some(_)) => Err(Failure::Usage(format!(
-            "{as_hex} and {as_file} exclude each other"
-        ))),
-        (Some(text), None) => decode(as_hex, text.as_encoded_bytes()).map(Some),
-        (None, Some(path)) => streams::read_file(as_file, path).map(Some),
-        (None, None) => Ok(None),
+    match Given::by(options, as_hex, as_file)? {
+        Some(Given::Bytes(bytes)) => Ok(Some(bytes)),
+        Some(Given::File(path)) => Source::file(as_file, path)?.all().map(Some),
+        None => Ok(None),
+    }
+}
+
+/// Bytes given in hex, or as a file that is not read yet.
+pub enum Given<'a> {
+    Bytes(Vec<u8>),
+    File(&'a OsStr),
+}
+
+impl Given<'_> {
+    pub fn by<'a>(
+        options: &'a Options,
+        as_hex: &str,
+        as_file: &str,
+    ) -> Result<Option<Given<'a>>, Failure> {
+        match (options.value(as_hex), options.value(as_file)) {
+            (Some(_), Some(_)) => Err(Failure::Usage(format!(
+                "{as_hex} and {as_file} exclude each other"
+            ))),
+            (Some(text), None) => {
+                let bytes = hex::decode(text.as_encoded_bytes());
+                Ok(Some(Given::Bytes(named(as_hex, bytes)?)))
+            }
+            (None, Some(path)) => Ok(Some(Given::File(path))),
+            (None, None) => Ok(None),
+        }
     }
 }
 
 /// What `--in` or standard input holds, as bytes or in hex.
 pub fn data(options: &Options) -> Result<Vec<u8>, Failure> {
-    let bytes = match options.value("--in") {
-        Some(path) if path != "-" => streams::read_file("--in", path)?,
-        _ => streams::read_stdin()?,
-    };
+    let bytes = source(options)?.all()?;
     if options.has("--hex-in") {
-        decode("--hex-in", &bytes)
+        named("--hex-in", hex::decode(&bytes))
     } else {
         Ok(bytes)
     }
 }
 
-fn decode(option: &str, text: &[u8]) -> Result<Vec<u8>, Failure> {
-    hex::decode(text).map_err(|what| Failure::Usage(format!("{option}: {what}")))
+/// `--in` or standard input.
+pub fn source(options: &Options) -> Result<Source, Failure> {
+    match options.value("--in") {
+        Some(path) if path != "-" => Source::file("--in", path),
+        _ => Ok(Source::stdin()),
+    }
+}
+
+/// Wrong hex is wrong usage of the option that has it.
+pub fn named<T>(option: &str, decoded: Result<T, String>) -> Result<T, Failure> {
+    decoded.map_err(|what| Failure::Usage(format!("{option}: {what}")))
 }
