@@ -25,6 +25,14 @@ impl Failure {
     }
 }
 
+/// The number that a call answers, or its refusal with the sentence for it.
+pub fn accepted(answer: i64, sentence: impl Fn(u8) -> String) -> Result<usize, Failure> {
+    usize::try_from(answer).map_err(|_| {
+        let number = answer.unsigned_abs() as u8;
+        Failure::Refusal(number, sentence(number))
+    })
+}
+
 impl fmt::Display for Failure {
     fn fmt(&self, f: &mut fmt::Formatter) -> fmt::Result {
         match self {

@@ -1,6 +1,8 @@
 //! The lab's command-line tool over the archive.
 
+mod ad_pieces;
 mod candump;
+mod check;
 mod crypt;
 mod edition;
 mod failure;
@@ -14,6 +16,7 @@ mod options;
 mod output;
 mod parts;
 mod refusal;
+mod sealed_pieces;
 mod selftest;
 mod streams;
 
@@ -34,7 +37,8 @@ fn help() -> String {
         MESSAGE_MAX = MESSAGE_MAX,
         SEALED_MAX = SEALED_MAX,
         IDENTIFIER_MAX = IDENTIFIER_MAX,
-        FRAME_MESSAGE_MAX = FRAME_MESSAGE_MAX
+        FRAME_MESSAGE_MAX = FRAME_MESSAGE_MAX,
+        PIECE = streams::PIECE
     )
 }
 
@@ -56,6 +60,7 @@ fn run(arguments: &[OsString]) -> Result<(), Failure> {
     match command.to_str() {
         Some("seal") => with_options(&options::SEAL_AND_OPEN, rest, |o| crypt::run(Call::Seal, o)),
         Some("open") => with_options(&options::SEAL_AND_OPEN, rest, |o| crypt::run(Call::Open, o)),
+        Some("check") => with_options(&options::CHECK, rest, check::run),
         Some("frame") => frame(rest),
         Some("parts") => with_options(&options::PARTS, rest, parts::run),
         Some("selftest") => alone(rest).and_then(|()| selftest::run()),

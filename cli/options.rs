@@ -24,6 +24,11 @@ pub const SEAL_AND_OPEN: Known = Known {
     alone: &["--hex-in", "--hex-out", "--help"],
 };
 
+pub const CHECK: Known = Known {
+    with_value: &[CIPHER, &["--ad", "--ad-file", "--in"]],
+    alone: &["--hex-in", "--help"],
+};
+
 pub const FRAME_MAKE: Known = Known {
     with_value: &[CIPHER, &["--id", "--flags", "--in", "--out"]],
     alone: &["--hex-in", "--help"],

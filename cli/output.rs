@@ -1,6 +1,6 @@
 //! What a command hands out.
 
-use crate::failure::Failure;
+use crate::failure::{accepted, Failure};
 use crate::options::Options;
 use crate::streams;
 use tikhoplav::hex;
@@ -11,16 +11,8 @@ pub fn written(
     mut out: Vec<u8>,
     sentence: impl Fn(u8) -> String,
 ) -> Result<Vec<u8>, Failure> {
-    match usize::try_from(answer) {
-        Ok(count) => {
-            out.truncate(count);
-            Ok(out)
-        }
-        Err(_) => {
-            let number = answer.unsigned_abs() as u8;
-            Err(Failure::Refusal(number, sentence(number)))
-        }
-    }
+    out.truncate(accepted(answer, sentence)?);
+    Ok(out)
 }
 
 /// Hands out bytes, or their hex digits if so asked.

@@ -19,8 +19,8 @@ const BLANK_KEY: &str = "the key is 16 zero bytes, which anybody can guess";
 const MAKE_A_KEY: &str = "seal with a random one ('head -c 16 /dev/urandom >lab.key' makes one, \
     for --key-file lab.key)";
 
-const TRUE_KEY: &str = "open with the key that it was sealed with; what was sealed with \
-    zeros opens with the version that sealed it, one before 3.0.0";
+const TRUE_KEY: &str = "the key that it was sealed with; what was sealed with zeros opens with \
+    the version that sealed it, one before 3.0.0";
 
 const TRUE_KEY_OF_FRAME: &str = "read the frame with the key that it was sealed with";
 
@@ -33,8 +33,8 @@ const SEALED_BEFORE: &str =
 /// number.
 pub fn sentence(call: Call, inputs: &Inputs, number: u8) -> String {
     let (data, limit, key) = match call {
-        Call::Seal => ("message", MESSAGE_MAX, MAKE_A_KEY),
-        Call::Open => ("sealed input", SEALED_MAX, TRUE_KEY),
+        Call::Seal => ("message", MESSAGE_MAX, MAKE_A_KEY.to_string()),
+        Call::Open => ("sealed input", SEALED_MAX, format!("open with {TRUE_KEY}")),
     };
     match number {
         3 => format!(
@@ -42,12 +42,23 @@ pub fn sentence(call: Call, inputs: &Inputs, number: u8) -> String {
             is("associated data", &inputs.ad)
         ),
         4 => format!("{}, and may be at most {limit}", is(data, &inputs.data)),
-        5 => format!(
-            "{}, and its tag alone is {TAG_SIZE}",
-            is(data, &inputs.data)
-        ),
-        7 => wrong_tag(inputs),
-        _ => of_any(&inputs.cipher, key, number),
+        5 => too_short(&inputs.data),
+        7 => wrong_tag(&inputs.cipher, inputs.ad.len()),
+        _ => of_any(&inputs.cipher, &key, number),
+    }
+}
+
+/// What is wrong with the inputs of `check`. How much too long they are is not known, since they
+/// are not read further. An input too short to have a tag is given whole for it.
+pub fn of_checking(cipher: &Cipher, ad_len: usize, tag: &[u8], number: u8) -> String {
+    match number {
+        3 => format!("the associated data is over {AD_MAX} bytes, and may be at most that"),
+        4 => format!("the sealed input is over {SEALED_MAX} bytes, and may be at most that"),
+        5 => too_short(tag),
+        7 => wrong_tag(cipher, ad_len),
+        13 => "the call is out of turn in its stream".to_string(),
+        14 => "the state is none that a stream can have".to_string(),
+        _ => of_any(cipher, &format!("check with {TRUE_KEY}"), number),
     }
 }
 
@@ -90,13 +101,20 @@ fn of_any(cipher: &Cipher, key: &str, number: u8) -> String {
     }
 }
 
+fn too_short(sealed: &[u8]) -> String {
+    format!(
+        "{}, and its tag alone is {TAG_SIZE}",
+        is("sealed input", sealed)
+    )
+}
+
 /// The versions before 2.0.0 have edition 1 alone.
-fn wrong_tag(inputs: &Inputs) -> String {
-    let before = match (inputs.cipher.edition.number(), inputs.ad.len()) {
+fn wrong_tag(cipher: &Cipher, ad_len: usize) -> String {
+    let before = match (cipher.edition.number(), ad_len) {
         (1, 128..=255) => format!(", or {SEALED_BEFORE}"),
         _ => String::new(),
     };
-    format!("{WRONG_TAG}{before}{}", or_other_edition(&inputs.cipher))
+    format!("{WRONG_TAG}{before}{}", or_other_edition(cipher))
 }
 
 fn or_other_edition(cipher: &Cipher) -> String {

@@ -310,7 +310,7 @@ help_and_selftest() {
   check "--help says that the editions don't open one another" grep -q "The two don't open one another" output
   check "--help says which edition to expect" grep -q "A partner's box is likely to speak edition 2 if" output
   check "--help has the limits of the data" \
-    grep -q "4 the message is over $message_max bytes (seal), or the sealed input over $sealed_max (open)" output
+    grep -q "4 the message is over $message_max bytes (seal), or the sealed input over $sealed_max (open, check)" output
   cp output help
   for command in seal open parts; do
     run 0 "$command" --help
