@@ -18,6 +18,8 @@ mod parts;
 mod refusal;
 mod sealed_pieces;
 mod selftest;
+mod stream_checks;
+mod stream_job;
 mod streams;
 
 use failure::Failure;

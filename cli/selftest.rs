@@ -3,6 +3,7 @@
 use crate::failure::Failure;
 use crate::frame_checks;
 use crate::job::Job;
+use crate::stream_checks;
 use crate::streams;
 use tikhoplav::hex;
 use tikhoplav::sizes::KEY_SIZE;
@@ -58,6 +59,7 @@ pub fn run() -> Result<(), Failure> {
             UNKNOWN_HEADING,
             UNKNOWN.into_iter().flat_map(unknown).collect(),
         ),
+        (stream_checks::HEADING, stream_checks::all()),
         (frame_checks::HEADING, frame_checks::all()),
     ];
     let checks = sections.iter().flat_map(|(_, checks)| checks);

@@ -328,7 +328,7 @@ help_and_selftest() {
   run 0 --version
   check "--version" [ "$(cat output)" = "tikhoplav $version" ]
   run 0 selftest
-  check "selftest" [ "$(tail -n 1 output)" = "130 passed, 0 failed" ]
+  check "selftest" [ "$(tail -n 1 output)" = "186 passed, 0 failed" ]
   check "selftest says which published vector it leaves out" grep -q "^  Published vector 1 is under this key" output
 }
 
