@@ -129,6 +129,8 @@ try-calls:
 	else echo 'left out: valgrind is not on PATH'; fi
 	@echo '== the command-line tool'
 	@tests/tool.sh build/tikhoplav include/tikhoplav.h
+	@echo '== the command-line tool on payloads in pieces'
+	@tests/check.sh build/tikhoplav include/tikhoplav.h
 	@echo '== the command-line tool on CAN FD frames'
 	@tests/frames.sh build/tikhoplav include/tikhoplav.h
 	@echo '== the installation'

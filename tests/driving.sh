@@ -39,12 +39,18 @@ run() { # STATUS ARGUMENT...: the tool exits so; its input is ./input, its outpu
   check "tikhoplav $*: $(cat errors)" [ "$status" = "$expected" ]
 }
 
-refuses() { # NUMBER SENTENCE ARGUMENT...: nothing is written to any output
+refused() { # NUMBER SENTENCE ARGUMENT...: nothing is written to standard output
   local number=$1 sentence=$2
   shift 2
   run "$number" "$@"
   check "$*" [ "$(cat errors)" = "refusal $number: $sentence" ]
   check "$*" [ ! -s output ]
+}
+
+refuses() { # NUMBER SENTENCE ARGUMENT...: nothing is written to any output
+  local number=$1
+  refused "$@"
+  shift 2
   run "$number" "$@" --out absent
   check "$*" [ ! -e absent ]
   echo kept >present
