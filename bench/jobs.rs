@@ -15,13 +15,13 @@ const NONCE: [u8; NONCE_SIZE] = [0xc3; NONCE_SIZE];
 
 #[derive(Clone)]
 pub struct Job {
-    call: Call,
-    edition: u32,
-    key: Vec<u8>,
-    nonce: Vec<u8>,
-    ad: Vec<u8>,
-    data: Vec<u8>,
-    out: Vec<u8>,
+    pub call: Call,
+    pub edition: u32,
+    pub key: Vec<u8>,
+    pub nonce: Vec<u8>,
+    pub ad: Vec<u8>,
+    pub data: Vec<u8>,
+    pub out: Vec<u8>,
 }
 
 impl Job {
@@ -37,7 +37,7 @@ impl Job {
         }
     }
 
-    fn opening(edition: u32, ad_len: usize, message_len: usize) -> Job {
+    pub fn opening(edition: u32, ad_len: usize, message_len: usize) -> Job {
         let mut sealing = Job::sealing(edition, ad_len, message_len);
         sealing.by_archive();
         Job {

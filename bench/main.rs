@@ -3,6 +3,7 @@
 
 mod growth;
 mod jobs;
+mod pieces;
 mod probes;
 mod rounds;
 
@@ -10,6 +11,8 @@ use rounds::{Pair, ROUNDS, ROUND_TIME};
 use tikhoplav::sizes::MESSAGE_MAX;
 
 const KIB: usize = 1024;
+/// What streams are timed at.
+const PIECE_LENS: [usize; 3] = [4 * KIB, 64, 1];
 const MESSAGE_LENS: [usize; 5] = [16, 64, KIB, 32 * KIB, MESSAGE_MAX];
 /// The clocks of 32 KiB of message.
 const CLOCKS: usize = 16 * 32 * KIB;
@@ -40,6 +43,12 @@ fn main() {
 
     println!("\nThe second edition's speed as a part of the first's, both by the archive:");
     editions();
+
+    println!(
+        "\nThe speed in pieces of so many bytes as a part of the whole-string call's, both by the archive,"
+    );
+    println!("at {} bytes; checking beside opening:", 32 * KIB);
+    streams();
 
     println!(
         "\nOpening's speed as a part of sealing's, at {} bytes:",
@@ -86,5 +95,21 @@ fn editions() {
     for size in MESSAGE_LENS {
         let mut pair = jobs::opening_second_to_first(size);
         row("opening, bytes", size, &mut pair);
+    }
+}
+
+fn streams() {
+    for (edition, sealing, checking) in [
+        (1, "sealing, bytes", "checking, bytes"),
+        (2, "sealing, edition 2, bytes", "checking, edition 2, bytes"),
+    ] {
+        for size in PIECE_LENS {
+            let mut pair = pieces::sealing(edition, 32 * KIB, size);
+            row(sealing, size, &mut pair);
+        }
+        for size in PIECE_LENS {
+            let mut pair = pieces::checking(edition, 32 * KIB, size);
+            row(checking, size, &mut pair);
+        }
     }
 }
