@@ -1,4 +1,4 @@
-// The machine on words, one byte or four bytes of the string at a time.
+// The machine on words, one bit, one byte or four bytes of the string at a time.
 ghost use mathlib.Core.Path.{_≡_};
 ghost use mathlib.Core.Bool.{true};
 ghost use mathlib.Core.List.{_∷_, []};

@@ -27,16 +27,16 @@ canOccur limit c =
     && (eqb (c .phase) 0 || complete c)))))
 
 -- A call of one kind on a stream of the other, or any call on a finished stream.
-abbrev pub notIts : Kind → Counts → Bool
-notIts kind c = not (eqb (c .kind) (number kind)) || not (eqb (c .phase) 0)
+abbrev pub otherOrFinished : Kind → Counts → Bool
+otherOrFinished kind c = not (eqb (c .kind) (number kind)) || not (eqb (c .phase) 0)
 
--- A piece of n bytes of AD is out of turn there, or where it goes beyond the announced length.
+-- A piece of n bytes of AD is out of turn on such a stream, or where it goes beyond the announced length.
 abbrev pub adOutOfTurn : Kind → Counts → (n : ℕ) → Bool
-adOutOfTurn kind c n = notIts kind c || ltb (c .announced) (c .ad + n)
+adOutOfTurn kind c n = otherOrFinished kind c || ltb (c .announced) (c .ad + n)
 
--- Message, ciphertext and finish are out of turn there, or before the AD is complete.
+-- Message, ciphertext and finish are out of turn on such a stream, or before the AD is complete.
 abbrev pub outOfTurn : Kind → Counts → Bool
-outOfTurn kind c = notIts kind c || not (complete c)
+outOfTurn kind c = otherOrFinished kind c || not (complete c)
 
 -- A piece of n bytes makes the message longer than the limit.
 abbrev pub tooLong : (limit : ℕ) → Counts → (n : ℕ) → Bool

@@ -40,4 +40,4 @@ rows unsound outOfTurn tooLong wrongSize noRoom wrongTag =
 -- The orders are those of the rows.
 pub record Tabled : Type 0 where
   pub ofBeginning : (unknown : Bool) (key nonce : List ℕ) (announced limit size : ℕ) → map (λ row. row .refusal) (beginRows unknown key nonce announced limit size) ≡ order.beginning
-  pub ofGoing : (unsound outOfTurn tooLong wrongSize noRoom wrongTag : Bool) → map (λ row. row .refusal) (rows unsound outOfTurn tooLong wrongSize noRoom wrongTag) ≡ order.going
+  pub ofOthers : (unsound outOfTurn tooLong wrongSize noRoom wrongTag : Bool) → map (λ row. row .refusal) (rows unsound outOfTurn tooLong wrongSize noRoom wrongTag) ≡ order.others

@@ -2,29 +2,23 @@
 -- Assumes nothing.
 use mathlib.Core.Path.{_≡_, refl, sym, ap, ap₂, _∙_}
 use mathlib.Core.Bool.{Bool, true, false, true≢false, _&&_}
-use mathlib.Core.List.{List, [], _∷_, _++_, append-assoc}
+use mathlib.Core.List.{List, [], _∷_, _++_}
 use Prim.Native.Nat.{ℕ, suc, _+_, _*_, _/_, _%_, _<_, _≤_}
 use native.Mathlib.Omega.{arith}
 use borrow.Author.Tests.{eq-eqb, eqb-true}
 use lib.Dec.{eqb, lit<, lit≤}
-use lib.ListN.{length, getD, take, drop, length-append, length-take, length-drop, take-append-drop}
+use lib.ListN.{length, getD, take, drop, length-drop, take-append-drop}
 use lib.Seq.{take-at, drop-at, drop-drop, drop-cons, getD-drop, length-take-le}
 use Rattle.bits.specs.Bytes.{Bytes, bits, bytes, same}
 use Rattle.bits.proofs.Packing.{length-bits, length-bytes, bytes-bits, bits-bytes, Bytes-take, Bytes-drop, same-equal, equal-same}
-use Rattle.preoutput.specs.Generator.{Generator}
-use Rattle.authenticator.specs.Authenticator.{Authenticator}
-use Rattle.machine.specs.declared.edition.Edition.{Edition}
-use Rattle.machine.specs.declared.edition.Edition.the-variants.{First, Second}
-use Rattle.machine.specs.Machine.{State}
 use Rattle.startup.specs.Editions.{number}
 use Rattle.startup.specs.Naming.{known, named}
 use Rattle.startup.proofs.Naming.{names}
-use Rattle.stream_checks.specs.declared.counts.Counts.{Counts}
 use Rattle.stream_checks.specs.Counts.{canOccur}
 use Rattle.stream_checks.specs.Rows.{stateSize}
 use Rattle.stream_state.specs.Stream.{Stream}
 use Rattle.stream_state.specs.Layout.{twoBytes, twoAt, spare, written, machineAt, countsAt, read, sound}
-use Rattle.stream_state.specs.Laws.{Occurs, Inverse}
+use Rattle.stream_state.specs.Laws.{Placed, Occurs, Inverse}
 
 -- ---- what is written, piece by piece
 
@@ -65,6 +59,26 @@ module _ (x : Stream) where
   pub length-written : length (written x) ≡ stateSize
   unfolding w
   length-written = omega (arith, ap length from-kind, length-drop 48 w)
+
+  -- From place 48 + k on.
+  behind : (k : ℕ) → drop (48 + k) w ≡ drop k tail
+  behind k = sym (drop-drop k 48 w) ∙ ap (drop k) from-kind
+
+  pub placed : Placed x (written x)
+  unfolding w
+  placed = record {
+    lfsr = ap (take 16) from-lfsr ∙ take-at (bytes 16 (x .machine .generator .lfsr)) _ 16 (length-bytes 16 _);
+    nfsr = ap (take 16) from-nfsr ∙ take-at (bytes 16 (x .machine .generator .nfsr)) _ 16 (length-bytes 16 _);
+    accumulator = ap (take 8) from-accumulator ∙ take-at (bytes 8 (x .machine .authenticator .accumulator)) _ 8 (length-bytes 8 _);
+    register = ap (take 8) from-register ∙ take-at (bytes 8 (x .machine .authenticator .register)) _ 8 (length-bytes 8 _);
+    kind = at 0;
+    phase = at 1;
+    adLength = ap (take 2) (behind 2);
+    adTaken = ap (take 2) (behind 4);
+    messageTaken = ap (take 2) (behind 6);
+    edition = at 8;
+    zeros = behind 9;
+  }
 
   module _ (limit : ℕ) (o : Occurs limit x) where
     counts-read : countsAt w ≡ x .counts
@@ -178,6 +192,7 @@ module _ (limit : ℕ) (s : List ℕ) (isBytes : Bytes s) (h : Soundly limit s) 
 pub inverse : (limit : ℕ) → Inverse limit
 inverse limit = record {
   size = length-written;
+  placed = placed;
   soundly = λ x. sound-written x limit;
   there = λ x. read-written x limit;
   back = λ s b h. written-read limit s b (soundly limit s h);

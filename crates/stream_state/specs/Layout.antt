@@ -1,6 +1,6 @@
 -- The 64 bytes of a stream (document 02, C-13 and C-20): LFSR, NFSR, accumulator and register, place 0 first, top bit first, in both editions; kind; phase;
 -- AD length, AD taken and message taken, two bytes each, high byte first; edition; 7 spare bytes, which are zero.
-use mathlib.Core.Bool.{Bool, true, false, cond, _&&_}
+use mathlib.Core.Bool.{Bool, cond, _&&_}
 use mathlib.Core.List.{List, [], _∷_, _++_}
 use mathlib.Core.Option.{Option, none, some}
 use Prim.Native.Nat.{ℕ, _+_, _*_, _/_, _%_}

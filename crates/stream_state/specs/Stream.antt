@@ -12,7 +12,7 @@ pub record Stream : Type 0 where
   pub machine : State
   pub counts : Counts
 
--- The stream in words.
+-- The stream that the code holds in machine words.
 unfoldable pub streamOf : Session → Stream
 streamOf x = record { machine = stateOf (x .engine); counts = x .counts }
 

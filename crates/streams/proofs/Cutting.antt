@@ -2,12 +2,11 @@
 -- Assumes nothing.
 use mathlib.Core.Path.{_≡_, refl, sym, ap, ap₂, _∙_, subst}
 use mathlib.Core.Logic.{_⊎_, inl, inr, ⊎-elim}
-use mathlib.Core.Bool.{Bool, true, false, true≢false, cond, not}
+use mathlib.Core.Bool.{Bool, true, false, true≢false, not}
 use mathlib.Core.List.{List, [], _∷_, _++_, append-nil}
-use Prim.Native.Nat.{ℕ, _+_, _≤_, _<_}
+use Prim.Native.Nat.{ℕ, _+_, _≤_}
 use native.Mathlib.Omega.{arith}
 use borrow.Author.Tests.{ltb-false, not-false}
-use lib.Dec.{lit<}
 use lib.ListN.{length, take, drop, length-append}
 use lib.Seq.{take-at}
 use Rattle.bits.specs.Bit.{digit}
@@ -36,10 +35,9 @@ use Rattle.stream_state.specs.Layout as layout
 use Rattle.stream_state.specs.Layout.{read, sound}
 use Rattle.stream_state.specs.Laws.{Occurs}
 use Rattle.stream_state.proofs.Inverse.{read-written, sound-written}
-use Rattle.streams.specs.Going.{isSealing, begun, withAd, withText, cipher, finished, tagOf}
-use Rattle.streams.specs.Calls.{Call, Begin, Ad, Message, Ciphertext, FinishSealing, FinishChecking, next, written, lent, Step, step, accepted, settled, onStream, called}
-use Rattle.streams.specs.Demand1.{Accepts}
-use Rattle.streams.specs.History.{History, Play, fresh, with, accepting, noting, after, play, played, message, reached, clocksOf}
+use Rattle.streams.specs.Going.{begun, withText, cipher, finished, tagOf}
+use Rattle.streams.specs.Calls.{Call, Begin, Ad, Message, Ciphertext, FinishSealing, FinishChecking, next, produced, lent, Step, step, accepted, settled, onStream, called}
+use Rattle.streams.specs.History.{History, Play, fresh, with, accepting, after, play, played, message, reached, clocksOf}
 use Rattle.streams.specs.Cutting.{Legal, handedOut}
 use Rattle.streams.proofs.Reached.{clocked, begun-reached, ad-goes-on, ad-stays, text-goes-on, cipher-goes-on, finish-goes-on, tag-reached}
 use Rattle.streams.proofs.Settled.{judgement, passed-clear, judgementOf, wrongTag, GoesOn, on-stream, beginJudgement, begins, Begins, called-begin}
@@ -106,7 +104,7 @@ no-ciphertext h ad = ordered-none (h .edition)
 module _ (h : History) (k : Kept h) where
   -- What a call on the stream that is reached writes, and its output afterwards.
   abbrev output-of : Call → List ℕ
-  output-of c = written c (reached h) ++ drop (length (written c (reached h))) (lent c)
+  output-of c = produced c (reached h) ++ drop (length (produced c (reached h))) (lent c)
 
   abbrev LeadsOn : Call → Type 0
   LeadsOn c = Leads (next c (reached h)) (accepting c (output-of c) h)
@@ -114,7 +112,7 @@ module _ (h : History) (k : Kept h) where
   -- A piece of AD where there is no message yet, and an empty one.
   ad-first : (kind : Kind) (piece : List ℕ) → h .ended ≡ false → length (h .ad) + length piece ≤ h .announced → h .text ≡ [] → LeadsOn (Ad kind piece)
   ad-first kind piece unended fits none = record {
-    same = ad-goes-on h piece unended none;
+    same = ad-goes-on h piece (h .output ++ []) unended none;
     kept = record {
       legal = record {
         keySized = k .legal .keySized;
@@ -126,13 +124,13 @@ module _ (h : History) (k : Kept h) where
         textFits = k .legal .textFits;
         endedBehindAd = λ ended. absurd (true≢false (sym ended ∙ unended));
       };
-      output = k .output ∙ handed (h .kind);
+      output = append-nil (h .output) ∙ k .output ∙ handed (h .kind);
       tagged = λ ended. absurd (true≢false (sym ended ∙ unended));
     };
   }
     where
       h′ : History
-      h′ = with h (h .ad ++ piece) (h .text) (h .output) (h .ended) (h .tag)
+      h′ = with h (h .ad ++ piece) (h .text) (h .output ++ []) (h .ended) (h .tag)
 
       none-of : (ad : List ℕ) → ciphertext (h .edition) (h .key) (h .nonce) ad (h .text) ≡ []
       none-of ad = ap (ciphertext (h .edition) (h .key) (h .nonce) ad) none ∙ no-ciphertext h ad
@@ -142,7 +140,9 @@ module _ (h : History) (k : Kept h) where
       handed Checking = refl
 
   ad-empty : (kind : Kind) (piece : List ℕ) → piece ≡ [] → LeadsOn (Ad kind piece)
-  ad-empty kind piece none = subst (λ (s : List ℕ). LeadsOn (Ad kind s)) (sym none) (record { same = ad-stays h; kept = subst Kept (ap (λ (s : List ℕ). with h s (h .text) (h .output) (h .ended) (h .tag)) (sym (append-nil (h .ad)))) k })
+  ad-empty kind piece none =
+      subst (λ (s : List ℕ). LeadsOn (Ad kind s)) (sym none)
+      (record { same = ad-stays h (h .output ++ []); kept = subst Kept (ap₂ (λ (s o : List ℕ). with h s (h .text) o (h .ended) (h .tag)) (sym (append-nil (h .ad))) (sym (append-nil (h .output)))) k })
 
   ad-leads : (kind : Kind) (piece : List ℕ) → judgementOf (Ad kind piece) (reached h .counts) ≡ Passed → LeadsOn (Ad kind piece)
   ad-leads kind piece passed =
@@ -210,8 +210,8 @@ module _ (h : History) (k : Kept h) where
 
   ciphertext-leads : (piece : List ℕ) → judgementOf (Ciphertext piece) (reached h .counts) ≡ Passed → LeadsOn (Ciphertext piece)
   ciphertext-leads piece passed = record {
-    same = ap (λ (kind : Kind). withText kind (reached h) piece) (sym checking) ∙ text-goes-on h piece (h .output) (i .unended) (i .full);
-    kept = text-kept piece (h .output) i (fitting piece (passed-clear _ _ _ _ passed .fits)) (k .output ∙ handed (h .kind) checking);
+    same = ap (λ (kind : Kind). withText kind (reached h) piece) (sym checking) ∙ text-goes-on h piece (h .output ++ []) (i .unended) (i .full);
+    kept = text-kept piece (h .output ++ []) i (fitting piece (passed-clear _ _ _ _ passed .fits)) (append-nil (h .output) ∙ k .output ∙ handed (h .kind) checking);
   }
     where
       i : InTurn Checking
@@ -221,16 +221,16 @@ module _ (h : History) (k : Kept h) where
       checking = same-kind (h .kind) Checking (i .kinds)
 
       h′ : History
-      h′ = with h (h .ad) (h .text ++ piece) (h .output) (h .ended) (h .tag)
+      h′ = with h (h .ad) (h .text ++ piece) (h .output ++ []) (h .ended) (h .tag)
 
       handed : (kind : Kind) → kind ≡ Checking → handedOut kind h ≡ handedOut kind h′
       handed Sealing e = absurd (let z = ap number e in omega (arith, z))
       handed Checking e = refl
 
   -- Finish.
-  finish-leads : (kind : Kind) (given : List ℕ) → InTurn kind → given ≡ tagOf (reached h) → Leads (finished (reached h)) (with h (h .ad) (h .text) (h .output) true given)
-  finish-leads kind given i right = record {
-    same = finish-goes-on h (i .unended) given;
+  finish-leads : (kind : Kind) (output given : List ℕ) → InTurn kind → output ≡ h .output → given ≡ tagOf (reached h) → Leads (finished (reached h)) (with h (h .ad) (h .text) output true given)
+  finish-leads kind output given i written right = record {
+    same = finish-goes-on h (i .unended) output given;
     kept = record {
       legal = record {
         keySized = k .legal .keySized;
@@ -242,12 +242,12 @@ module _ (h : History) (k : Kept h) where
         textFits = k .legal .textFits;
         endedBehindAd = λ ended. i .full;
       };
-      output = k .output ∙ handed (h .kind);
+      output = written ∙ k .output ∙ handed (h .kind);
       tagged = λ ended. right ∙ tag-reached h (i .unended) (i .full);
     };
   }
     where
-      handed : (kind : Kind) → handedOut kind h ≡ handedOut kind (with h (h .ad) (h .text) (h .output) true given)
+      handed : (kind : Kind) → handedOut kind h ≡ handedOut kind (with h (h .ad) (h .text) output true given)
       handed Sealing = refl
       handed Checking = refl
 
@@ -258,13 +258,13 @@ module _ (h : History) (k : Kept h) where
   leads-on (Message piece out) on passed right = message-leads piece out passed
   leads-on (Ciphertext piece) on passed right = ciphertext-leads piece passed
   leads-on (FinishSealing out) on passed right =
-      finish-leads Sealing _ (turned Sealing _ _ _ passed) (take-at (tagOf (reached h)) _ tagSize (length-bytesIn (reached h .machine .edition) tagSize _))
+      finish-leads Sealing (h .output) _ (turned Sealing _ _ _ passed) refl (take-at (tagOf (reached h)) _ tagSize (length-bytesIn (reached h .machine .edition) tagSize _))
   leads-on (FinishChecking given) on passed right =
-      finish-leads Checking given (turned Checking _ _ _ passed) (same-equal given (tagOf (reached h)) (not-false _ right))
+      finish-leads Checking (h .output ++ []) given (turned Checking _ _ _ passed) (append-nil (h .output)) (same-equal given (tagOf (reached h)) (not-false _ right))
 
 -- The clocks that are answered are those of the history to which the call leads.
 counted : {a : Answer} {m : ℕ} {x : Stream} {h : History} → a ≡ Count m → a ≡ Count (clocksSoFar x) → Leads x h → m ≡ length (clocksOf h)
-counted p q l = same-count (sym p ∙ q) ∙ ap clocksSoFar (l .same) ∙ sym (clocked _ (l .kept .legal .keySized) .count)
+counted p q l = same-count (sym p ∙ q) ∙ ap clocksSoFar (l .same) ∙ sym (clocked _ (l .kept .legal) .count)
   where
     same-count : {i j : ℕ} → Count i ≡ Count j → i ≡ j
     same-count e = cc
@@ -309,8 +309,8 @@ module _ (p : Play) (c : Call) where
 
   abbrev AcceptedNow : Type 0
   AcceptedNow =
-      (called c (p .state) ≡ accepted (next c reachedNow) (written c reachedNow) (lent c))
-      × Leads (next c reachedNow) (accepting c (written c reachedNow ++ drop (length (written c reachedNow)) (lent c)) (p .history))
+      (called c (p .state) ≡ accepted (next c reachedNow) (produced c reachedNow) (lent c))
+      × Leads (next c reachedNow) (accepting c (produced c reachedNow ++ drop (length (produced c reachedNow)) (lent c)) (p .history))
 
 module _ (p : Play) (f : Follows p) where
   -- The next call goes by the stream that is reached.
@@ -346,7 +346,7 @@ module _ (p : Play) (f : Follows p) where
   view (FinishChecking given) = view-going (FinishChecking given) tt
 
   -- After the call, refused or accepted.
-  follows-on : (c : Call) → Follows (play p c)
+  pub follows-on : (c : Call) → Follows (play p c)
   follows-on c = ⊎-elim refused goes (view c)
     where
       refused : RefusedNow p c → Follows (play p c)
@@ -355,13 +355,16 @@ module _ (p : Play) (f : Follows p) where
       goes : AcceptedNow p c → Follows (play p c)
       goes v = subst (λ (t : Step). Follows (after c t (p .history))) (sym (v .0)) (record { state = ap layout.written (v .1 .same); kept = v .1 .kept })
 
-  pub stays : (c : Call) (r : Refusal) → called c (p .state) .answer ≡ Refused r → play p c ≡ p
+  pub stays : (c : Call) (r : Refusal) → called c (p .state) .answer ≡ Refused r → (called c (p .state) ≡ step (Refused r) (p .state) (lent c)) × (play p c ≡ p)
   stays c r e = ⊎-elim refused goes (view c)
     where
-      refused : RefusedNow p c → play p c ≡ p
-      refused v = ap (λ (t : Step). after c t (p .history)) (v .1)
+      same-refusal : {q q′ : Refusal} → Refused q ≡ Refused q′ → q ≡ q′
+      same-refusal h = cc
 
-      goes : AcceptedNow p c → play p c ≡ p
+      refused : RefusedNow p c → (called c (p .state) ≡ step (Refused r) (p .state) (lent c)) × (play p c ≡ p)
+      refused v = (v .1 ∙ ap (λ (q : Refusal). step (Refused q) (p .state) (lent c)) (same-refusal (sym (ap (λ (t : Step). t .answer) (v .1)) ∙ e)), ap (λ (t : Step). after c t (p .history)) (v .1))
+
+      goes : AcceptedNow p c → (called c (p .state) ≡ step (Refused r) (p .state) (lent c)) × (play p c ≡ p)
       goes v = absurd (count-not-refused refl (sym (ap (λ (t : Step). t .answer) (v .0)) ∙ e))
 
   pub answers : (c : Call) (n : ℕ) → called c (p .state) .answer ≡ Count n → n ≡ length (clocksOf (play p c .history))

@@ -6,3 +6,4 @@ pub mod Reached
 pub mod Cutting
 pub mod Taking
 pub mod Whole
+pub mod WholeCutting

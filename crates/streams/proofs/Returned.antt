@@ -12,6 +12,6 @@ use Rattle.streams.specs.Signed.{Returns}
 pub returned : (a : Answer) (state output : List ℕ) (t : Step) (r : ℤ) → r ≡ signedOf (capped a) → capped a ≡ a → step a state output ≡ t → Returns t r state output
 returned a state output t r n fits e = record {
   number = n ∙ ap signedOf fits ∙ ap (λ (u : Step). signedOf (u .answer)) e;
-  kept = ap (λ (u : Step). u .state) e;
+  state = ap (λ (u : Step). u .state) e;
   written = ap (λ (u : Step). u .output) e;
 }

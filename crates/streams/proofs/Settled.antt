@@ -2,9 +2,9 @@
 -- Assumes nothing.
 use mathlib.Core.Path.{_≡_, refl, sym, ap, ap₂, _∙_}
 use mathlib.Core.Logic.{_≢_}
-use mathlib.Core.Bool.{Bool, true, false, true≢false, cond, not}
+use mathlib.Core.Bool.{Bool, true, false, cond, not}
 use mathlib.Core.List.{List, [], _∷_}
-use mathlib.Core.Option.{Option, none, some, Option·some-injective, Option·none-ne-some}
+use mathlib.Core.Option.{none, some, Option·some-injective, Option·none-ne-some}
 use Prim.Native.Nat.{ℕ, _+_, _<_, _≤_}
 use native.Mathlib.Omega.{arith}
 use borrow.Author.Tests.{eq-eqb, eqb-true, ltb-false, le-ltb, not-false}
@@ -29,7 +29,7 @@ use Rattle.stream_checks.specs.declared.counts.Kind.{Kind}
 use Rattle.stream_checks.specs.declared.counts.Kind.the-variants.{Sealing, Checking}
 use Rattle.stream_checks.specs.declared.counts.Counts.{Counts}
 use Rattle.stream_checks.specs.Counts.{adOutOfTurn, outOfTurn, tooLong}
-use Rattle.stream_checks.specs.Order.{beginning, beforeTag, going}
+use Rattle.stream_checks.specs.Order.{beginning, beforeTag, others}
 use Rattle.stream_checks.specs.Rows.{stateSize, beginRows, rows}
 use Rattle.stream_state.specs.declared.Session.{Session}
 use Rattle.stream_state.specs.declared.Held.{Held}
@@ -39,7 +39,7 @@ use Rattle.stream_state.specs.Layout as layout
 use Rattle.stream_state.specs.Layout.{read, sound, held, heldOf}
 use Rattle.stream_state.proofs.Inverse.{soundly, inverse}
 use Rattle.streams.specs.Going.{begun, tagOf}
-use Rattle.streams.specs.Calls.{Call, Begin, Ad, Message, Ciphertext, FinishSealing, FinishChecking, order, next, written, lent, step, accepted, settled, onStream, called}
+use Rattle.streams.specs.Calls.{Call, Begin, Ad, Message, Ciphertext, FinishSealing, FinishChecking, order, next, produced, lent, step, accepted, settled, onStream, called}
 use Rattle.streams.specs.Calls as calls
 
 -- ---- what the state holds
@@ -139,12 +139,12 @@ GoesOn (FinishSealing out) = Unit
 GoesOn (FinishChecking tag) = Unit
 
 -- The tag's row is tried after the others, and one of a state that is not sound before them.
-going-check : (o t w n d : Bool) → check going (among (rows false o t w n d)) ≡ after (judgement o t w n) TagDiffers d
-unfolding going beforeTag rows among check
+going-check : (o t w n d : Bool) → check others (among (rows false o t w n d)) ≡ after (judgement o t w n) TagDiffers d
+unfolding others beforeTag rows among check
 going-check o t w n d = check-last beforeTag TagDiffers (among (rows false o t w n d))
 
-going-unsound : (o t w n d : Bool) → check going (among (rows true o t w n d)) ≡ Failed UnsoundState
-unfolding going beforeTag rows among check
+going-unsound : (o t w n d : Bool) → check others (among (rows true o t w n d)) ≡ Failed UnsoundState
+unfolding others beforeTag rows among check
 going-unsound o t w n d = refl
 
 by-judgement : (c : Call) → GoesOn c → (size : ℕ) (x : Stream) → check (order c) (among (calls.rows c size false x)) ≡ after (judgementOf c (x .counts)) TagDiffers (wrongTag c x)
@@ -167,19 +167,19 @@ module _ (c : Call) (on : GoesOn c) where
   pub called-unsound : (s : List ℕ) → sound messageLimit s ≡ false → step (Refused UnsoundState) s (lent c) ≡ called c s
   unfolding called settled
   called-unsound s h =
-      sym (ap (λ (b : Bool). onStream c (not b) (read s) s) h ∙ ap (λ (d : Check). settled d (next c (read s)) (written c (read s)) s (lent c)) (not-sound c on (length s) (read s)))
+      sym (ap (λ (b : Bool). onStream c (not b) (read s) s) h ∙ ap (λ (d : Check). settled d (next c (read s)) (produced c (read s)) s (lent c)) (not-sound c on (length s) (read s)))
 
   -- A call on a stream by its rows.
   pub on-stream : (x : Stream) (s : List ℕ) (d : Check) (b : Bool) → judgementOf c (x .counts) ≡ d → wrongTag c x ≡ b
-      → onStream c false x s ≡ settled (after d TagDiffers b) (next c x) (written c x) s (lent c)
-  on-stream x s d b h k = ap (λ (e : Check). settled e (next c x) (written c x) s (lent c)) (by-judgement c on (length s) x ∙ ap₂ (λ (e : Check) (t : Bool). after e TagDiffers t) h k)
+      → onStream c false x s ≡ settled (after d TagDiffers b) (next c x) (produced c x) s (lent c)
+  on-stream x s d b h k = ap (λ (e : Check). settled e (next c x) (produced c x) s (lent c)) (by-judgement c on (length s) x ∙ ap₂ (λ (e : Check) (t : Bool). after e TagDiffers t) h k)
 
   module _ {s : List ℕ} {x : Session} (h : Holding s x) where
     pub called-failed : {q : Refusal} → judgementOf c (x .counts) ≡ Failed q → step (Refused q) s (lent c) ≡ called c s
     unfolding settled streamOf
     called-failed {q} j = sym (called-sound h c ∙ on-stream (streamOf x) s (Failed q) _ j refl)
 
-    pub called-passed : judgementOf c (x .counts) ≡ Passed → wrongTag c (streamOf x) ≡ false → accepted (next c (streamOf x)) (written c (streamOf x)) (lent c) ≡ called c s
+    pub called-passed : judgementOf c (x .counts) ≡ Passed → wrongTag c (streamOf x) ≡ false → accepted (next c (streamOf x)) (produced c (streamOf x)) (lent c) ≡ called c s
     unfolding settled streamOf
     called-passed j t = sym (called-sound h c ∙ on-stream (streamOf x) s Passed false j t)
 

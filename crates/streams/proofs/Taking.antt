@@ -3,11 +3,9 @@
 use mathlib.Core.Path.{_≡_, refl, sym, ap, _∙_}
 use mathlib.Core.Logic.{_↔_}
 use mathlib.Core.Bool.{Bool, true, false, not}
-use mathlib.Core.List.{List, []}
-use Prim.Native.Nat.{ℕ, _+_, _≤_}
-use native.Mathlib.Omega.{arith}
+use mathlib.Core.List.{List}
+use Prim.Native.Nat.{ℕ, _+_}
 use borrow.Author.Tests.{eqb-true, eq-eqb, ltb-false, le-ltb, not-false}
-use lib.Dec.{eqb}
 use lib.ListN.{length}
 use Rattle.bits.specs.Bit.{digit}
 use Rattle.bits.specs.Bytes.{same}
@@ -18,19 +16,17 @@ use Rattle.refusals.specs.declared.Check.the-variants.{Passed, Failed}
 use Rattle.refusals.specs.Refusals.{after}
 use Rattle.refusals.proofs.Demand1.{count-not-refused}
 use Rattle.payload.specs.Sizes.{tagSize}
-use Rattle.payload.specs.Payload.{tag}
 use Rattle.grain128aead.specs.Sizes.{messageLimit}
 use Rattle.stream_checks.specs.declared.counts.Kind.{Kind}
 use Rattle.stream_checks.specs.declared.counts.Kind.the-variants.{Sealing, Checking}
 use Rattle.stream_checks.specs.Counts.{number, outOfTurn}
 use Rattle.stream_checks.proofs.Turns.{Its, ad-in-turn, in-turn, in-turn-ad, in-turn-text}
-use Rattle.streams.specs.Going.{tagOf}
-use Rattle.streams.specs.Calls.{Call, Begin, Ad, Message, Ciphertext, FinishSealing, FinishChecking, next, written, lent, Step, settled, called}
+use Rattle.streams.specs.Calls.{Call, Begin, Ad, Message, Ciphertext, FinishSealing, FinishChecking, next, produced, lent, Step, settled, called}
 use Rattle.streams.specs.Demand1.{Accepts}
-use Rattle.streams.specs.History.{History, Play, message, reached}
+use Rattle.streams.specs.History.{History, Play, reached}
 use Rattle.streams.specs.Cutting.{Taking}
 use Rattle.streams.proofs.Reached.{tag-reached}
-use Rattle.streams.proofs.Settled.{judgement, passed-clear, clear-passed, judgementOf, wrongTag, GoesOn, on-stream, beginJudgement, Begins, begins, begins-passed, called-begin}
+use Rattle.streams.proofs.Settled.{passed-clear, clear-passed, judgementOf, wrongTag, GoesOn, on-stream, beginJudgement, Begins, begins, begins-passed, called-begin}
 use Rattle.streams.proofs.Cutting.{not-ended, same-kind, Follows, next-goes}
 
 module _ (h : History) where
@@ -97,7 +93,7 @@ module _ (p : Play) (f : Follows p) where
   unfolding settled
   accepts-going c on = go (judgementOf c (reached (p .history) .counts)) (wrongTag c (reached (p .history))) refl refl
     where
-      answer : (d : Check) (b : Bool) → judgementOf c (reached (p .history) .counts) ≡ d → wrongTag c (reached (p .history)) ≡ b → called c (p .state) .answer ≡ settled (after d TagDiffers b) (next c (reached (p .history))) (written c (reached (p .history))) (p .state) (lent c) .answer
+      answer : (d : Check) (b : Bool) → judgementOf c (reached (p .history) .counts) ≡ d → wrongTag c (reached (p .history)) ≡ b → called c (p .state) .answer ≡ settled (after d TagDiffers b) (next c (reached (p .history))) (produced c (reached (p .history))) (p .state) (lent c) .answer
       answer d b j w = ap (λ (t : Step). t .answer) (next-goes p f c ∙ on-stream c on (reached (p .history)) (p .state) d b j w)
 
       go : (d : Check) (b : Bool) → judgementOf c (reached (p .history) .counts) ≡ d → wrongTag c (reached (p .history)) ≡ b

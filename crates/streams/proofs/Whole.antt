@@ -1,46 +1,45 @@
 -- Any cutting beside the calls on whole strings.
 -- Assumes nothing.
 use mathlib.Core.Path.{_≡_, refl, sym, ap, ap₂, _∙_, subst}
-use mathlib.Core.Logic.{_⊎_, inl, inr, ⊎-elim}
-use mathlib.Core.Bool.{Bool, true, false, true≢false, cond, not}
+use mathlib.Core.Logic.{_≢_, inl, inr}
+use mathlib.Core.Bool.{Bool, true, false, cond, not}
 use mathlib.Core.List.{List, [], _++_}
 use Prim.Native.Nat.{ℕ, _+_, _≤_}
 use native.Mathlib.Omega.{arith}
-use borrow.Author.Tests.{eq-eqb}
+use borrow.Author.Tests.{eq-eqb, ne-eqb}
 use lib.Dec.{eqb}
 use lib.ListN.{length, length-append}
 use Rattle.bits.specs.Bit.{digit}
 use Rattle.bits.specs.Bytes.{same}
 use Rattle.bits.proofs.Packing.{equal-same}
-use Rattle.refusals.specs.declared.Refusal.the-variants.{TagDiffers}
-use Rattle.refusals.specs.declared.Check.the-variants.{Passed}
+use Rattle.refusals.specs.declared.Refusal.{Refusal}
+use Rattle.refusals.specs.declared.Refusal.the-variants.{TagDiffers, UnsoundState}
+use Rattle.refusals.specs.declared.Check.{Check}
+use Rattle.refusals.specs.declared.Check.the-variants.{Passed, Failed}
 use Rattle.refusals.specs.declared.Answer.the-variants.{Refused}
-use Rattle.refusals.specs.Refusals.{among, check, after}
+use Rattle.refusals.specs.Refusals.{after}
 use Rattle.refusals.specs.Outcome.{Outcome, success, refused}
-use Rattle.refusals.specs.Demand1 as anyCall
 use Rattle.refusals.proofs.Demand1.{count-not-refused}
-use Rattle.machine.specs.declared.edition.Edition.{Edition}
 use Rattle.payload.specs.Sizes.{tagSize}
-use Rattle.payload.specs.Payload.{ciphertext, deciphered, tag, payload, ciphertextPart}
+use Rattle.payload.specs.Payload.{deciphered, tag, payload, ciphertextPart}
 use Rattle.payload.proofs.Payload.{ciphertextPart-joined, tagPart-joined, length-tag}
 use Rattle.grain128aead.specs.Sizes.{messageLimit}
 use Rattle.grain128aead.specs.Calls.{sealed, recovered, tagDiffers, opened}
 use Rattle.grain128aead.specs.Demand2 as whole
-use Rattle.grain128aead.proofs.Demand2.{sealing, InOrder, legal-in-order, opening-tag}
+use Rattle.grain128aead.proofs.Demand2.{sealing, legal-in-order, opening-tag}
 use Rattle.stream_checks.specs.declared.counts.Kind.{Kind}
 use Rattle.stream_checks.specs.declared.counts.Kind.the-variants.{Sealing, Checking}
 use Rattle.stream_checks.specs.Counts.{number, outOfTurn}
-use Rattle.stream_checks.specs.Order.{beforeTag}
-use Rattle.stream_checks.specs.Rows.{rows}
+use Rattle.stream_checks.specs.Rows.{stateSize}
 use Rattle.stream_checks.proofs.Turns.{in-turn-text}
-use Rattle.stream_state.specs.Stream.{Stream, clocksSoFar}
-use Rattle.streams.specs.Going.{isSealing, finished, tagOf}
-use Rattle.streams.specs.Calls.{Call, Begin, FinishChecking, Step, step, accepted, settled, called}
-use Rattle.streams.specs.Demand1.{Accepts}
-use Rattle.streams.specs.History.{History, Play, fresh, played, message, reached}
-use Rattle.streams.specs.Cutting.{Legal, handedOut, Verdict, Cut, AnyCutting}
-use Rattle.streams.proofs.Reached.{clocked, tag-reached}
-use Rattle.streams.proofs.Settled.{judgement, clear-passed, on-stream}
+use Rattle.stream_state.specs.Stream.{Stream}
+use Rattle.stream_state.specs.Layout.{sound}
+use Rattle.streams.specs.Going.{isSealing, finished}
+use Rattle.streams.specs.Calls.{Begin, Ad, Message, Ciphertext, FinishSealing, FinishChecking, Step, step, settled, called}
+use Rattle.streams.specs.History.{History, Play, played, message, reached}
+use Rattle.streams.specs.Cutting.{Legal, handedOut, Verdict, Cut, AnyCutting, OtherLength}
+use Rattle.streams.proofs.Reached.{clocked, tag-reached, taken-whole, taken-begins}
+use Rattle.streams.proofs.Settled.{judgement, clear-passed, called-unsound, on-stream, beginJudgement, begins, begin-failed}
 use Rattle.streams.proofs.Taking.{takes}
 use Rattle.streams.proofs.Cutting.{Kept, Follows, next-goes, stays, answers, follows, begin-follows, begin-answers}
 
@@ -123,14 +122,18 @@ module _ (p : Play) (f : Follows p) where
       passed : judgement (outOfTurn Checking (reached h .counts)) false (not (eqb (length given) tagSize)) false ≡ Passed
       passed = clear-passed _ _ _ _ (record { inTurn = turn; fits = refl; sized = ap not (eq-eqb (length given) tagSize eight); room = refl })
 
-  cut : Cut p
+  pub cut : Cut p
   unfolding h
   cut = record {
     state = f .state;
     next = next-goes p f;
     takes = takes p f;
     legal = f .kept .legal;
-    clocked = clocked (p .history) (f .kept .legal .keySized);
+    clocked = clocked (p .history) (f .kept .legal);
+    authenticated = record {
+      all = λ ended. taken-whole (p .history) ended (f .kept .legal .endedBehindAd ended);
+      front = λ unended ad text full. taken-begins (p .history) unended ad text full;
+    };
     answers = answers p f;
     refused = stays p f;
     output = f .kept .output;
@@ -143,3 +146,19 @@ pub any-cutting : AnyCutting
 any-cutting kind n key nonce announced s m a =
     let f = begin-follows kind n key nonce announced s a in
     (begin-answers kind n key nonce announced s m a, λ calls. cut (played _ calls) (follows _ f calls))
+
+not-sized : (s : List ℕ) → length s ≢ stateSize → sound messageLimit s ≡ false
+unfolding sound
+not-sized s other = rw (ne-eqb (length s) stateSize other) refl
+
+pub other-length : OtherLength
+other-length (Begin kind n key nonce announced) s other = go (beginJudgement kind n key nonce announced s) refl
+  where
+    go : (d : Check) → beginJudgement kind n key nonce announced s ≡ d → (r : Refusal) × (called (Begin kind n key nonce announced) s ≡ step (Refused r) s [])
+    go Passed j = absurd (other (begins kind n key nonce announced s j .sized))
+    go (Failed r) j = (r, sym (begin-failed kind n key nonce announced s j))
+other-length (Ad kind piece) s other = (UnsoundState, sym (called-unsound (Ad kind piece) tt s (not-sized s other)))
+other-length (Message piece out) s other = (UnsoundState, sym (called-unsound (Message piece out) tt s (not-sized s other)))
+other-length (Ciphertext piece) s other = (UnsoundState, sym (called-unsound (Ciphertext piece) tt s (not-sized s other)))
+other-length (FinishSealing out) s other = (UnsoundState, sym (called-unsound (FinishSealing out) tt s (not-sized s other)))
+other-length (FinishChecking given) s other = (UnsoundState, sym (called-unsound (FinishChecking given) tt s (not-sized s other)))

@@ -18,7 +18,7 @@ use Rattle.grain128aead.specs.Sizes.{adLimit, messageLimit}
 use Rattle.stream_checks.specs.declared.counts.Kind.{Kind}
 use Rattle.stream_checks.specs.declared.counts.Kind.the-variants.{Sealing, Checking}
 use Rattle.stream_checks.specs.Counts.{adOutOfTurn, outOfTurn, tooLong}
-use Rattle.stream_checks.specs.Order.{beginning, going}
+use Rattle.stream_checks.specs.Order.{beginning, others}
 use Rattle.stream_checks.specs.Rows as checks
 use Rattle.stream_state.specs.Stream.{Stream, clocksSoFar}
 use Rattle.stream_state.specs.Layout as layout
@@ -38,11 +38,11 @@ pub data Call : Type 0 where
 
 abbrev pub order : Call → List Refusal
 order (Begin kind n key nonce announced) = beginning
-order (Ad kind piece) = going
-order (Message piece out) = going
-order (Ciphertext piece) = going
-order (FinishSealing out) = going
-order (FinishChecking tag) = going
+order (Ad kind piece) = others
+order (Message piece out) = others
+order (Ciphertext piece) = others
+order (FinishSealing out) = others
+order (FinishChecking tag) = others
 
 -- When each refusal applies, on a state of so many bytes, sound or not, that is read as x. Begin looks at the size alone.
 abbrev pub rows : Call → (size : ℕ) → (unsound : Bool) → Stream → List Row
@@ -65,13 +65,13 @@ next (FinishSealing out) x = finished x
 next (FinishChecking tag) x = finished x
 
 -- What is then written to the front of the output. A checking stream writes nothing.
-abbrev pub written : Call → Stream → List ℕ
-written (Begin kind n key nonce announced) x = []
-written (Ad kind piece) x = []
-written (Message piece out) x = cipher x piece
-written (Ciphertext piece) x = []
-written (FinishSealing out) x = tagOf x
-written (FinishChecking tag) x = []
+abbrev pub produced : Call → Stream → List ℕ
+produced (Begin kind n key nonce announced) x = []
+produced (Ad kind piece) x = []
+produced (Message piece out) x = cipher x piece
+produced (Ciphertext piece) x = []
+produced (FinishSealing out) x = tagOf x
+produced (FinishChecking tag) x = []
 
 -- The output that is lent; where a call has none, it is empty.
 abbrev pub lent : Call → List ℕ
@@ -102,7 +102,7 @@ settled (Failed r) x written state out = step (Refused r) state out
 
 -- A call on a state of so many bytes, sound or not, that is read as x.
 abbrev pub onStream : Call → (unsound : Bool) → Stream → (state : List ℕ) → Step
-onStream c unsound x state = settled (check (order c) (among (rows c (length state) unsound x))) (next c x) (written c x) state (lent c)
+onStream c unsound x state = settled (check (order c) (among (rows c (length state) unsound x))) (next c x) (produced c x) state (lent c)
 
 -- A call on any state.
 unfoldable pub called : Call → (state : List ℕ) → Step

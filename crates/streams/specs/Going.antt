@@ -1,10 +1,10 @@
 -- How a stream goes on (document 02, C-13): the string bits that each call has the machine take, what comes out, and what is counted.
-use mathlib.Core.Bool.{Bool, true, false, cond}
+use mathlib.Core.Bool.{Bool, true, false}
 use mathlib.Core.List.{List, [], _∷_}
 use Prim.Native.Nat.{ℕ, _+_}
 use lib.ListN.{length}
 use Rattle.machine.specs.declared.edition.Edition.{Edition}
-use Rattle.machine.specs.Machine.{State, run, crypt}
+use Rattle.machine.specs.Machine.{State, run, encipher, decipher}
 use Rattle.startup.specs.Editions.{bitsIn, bytesIn, initialised}
 use Rattle.lengths.specs.CodedLength.{codedLength}
 use Rattle.payload.specs.Sizes.{tagSize}
@@ -44,14 +44,15 @@ withAd x piece = record { machine = run (x .machine) (bitsIn (x .machine .editio
 
 -- The machine after a piece of message or ciphertext: it takes the message's bits, which are those given when sealing and those that come out when checking.
 abbrev pub through : Kind → State → List Bool → State
-through kind st s = run st (cond (isSealing kind) s (crypt (isSealing kind) st s))
+through Sealing st s = run st s
+through Checking st s = run st (decipher st s)
 
 abbrev pub withText : Kind → Stream → (piece : List ℕ) → Stream
 withText kind x piece = record { machine = through kind (x .machine) (bitsIn (x .machine .edition) piece); counts = moreMessage (x .counts) (length piece) }
 
 -- The ciphertext of a piece of message.
 abbrev pub cipher : Stream → (piece : List ℕ) → List ℕ
-cipher x piece = bytesIn (x .machine .edition) (length piece) (crypt true (x .machine) (bitsIn (x .machine .edition) piece))
+cipher x piece = bytesIn (x .machine .edition) (length piece) (encipher (x .machine) (bitsIn (x .machine .edition) piece))
 
 -- Finish: the final 1; the tag is the accumulator after it.
 abbrev pub finished : Stream → Stream

@@ -17,15 +17,14 @@ use Rattle.lengths.specs.CodedLength.{codedLength}
 use Rattle.payload.specs.Sizes.{tagSize}
 use Rattle.payload.specs.Payload.{deciphered}
 use Rattle.stream_checks.specs.declared.counts.Kind.{Kind}
-use Rattle.stream_checks.specs.declared.counts.Kind.the-variants.{Sealing, Checking}
 use Rattle.stream_checks.specs.Counts.{number}
 use Rattle.stream_state.specs.Stream.{Stream}
 use Rattle.streams.specs.Going.{isSealing}
 use Rattle.streams.specs.Calls.{Call, Begin, Ad, Message, Ciphertext, FinishSealing, FinishChecking, Step, called}
 
 -- Of the last accepted begin: the kind, the edition, the key, the nonce and the announced length of the AD. Of the calls accepted since: the pieces of AD
--- joined; the pieces of message, or of ciphertext, joined; what pieces of message had written to the front of their outputs, joined; whether finish was
--- accepted, and the tag that it wrote or was given.
+-- joined; the pieces of message, or of ciphertext, joined; what the calls wrote, joined, a piece of message to the front of its output, a call without an output
+-- nothing; whether finish was accepted, and the tag that it wrote or was given.
 pub record History : Type 0 where
   pub kind : Kind
   pub edition : Edition
@@ -52,7 +51,7 @@ fresh kind n key nonce announced = record {
   tag = [];
 }
 
--- The same stream with these.
+-- The history with these in place of its own.
 abbrev pub with : History → (ad text output : List ℕ) → (ended : Bool) → (tag : List ℕ) → History
 with h ad text output ended tag = record {
   kind = h .kind;
@@ -70,18 +69,18 @@ with h ad text output ended tag = record {
 -- What an accepted call adds, where `out` is its output afterwards.
 abbrev pub accepting : Call → (out : List ℕ) → History → History
 accepting (Begin kind n key nonce announced) out h = fresh kind n key nonce announced
-accepting (Ad kind piece) out h = with h (h .ad ++ piece) (h .text) (h .output) (h .ended) (h .tag)
+accepting (Ad kind piece) out h = with h (h .ad ++ piece) (h .text) (h .output ++ out) (h .ended) (h .tag)
 accepting (Message piece lent) out h = with h (h .ad) (h .text ++ piece) (h .output ++ take (length piece) out) (h .ended) (h .tag)
-accepting (Ciphertext piece) out h = with h (h .ad) (h .text ++ piece) (h .output) (h .ended) (h .tag)
+accepting (Ciphertext piece) out h = with h (h .ad) (h .text ++ piece) (h .output ++ out) (h .ended) (h .tag)
 accepting (FinishSealing lent) out h = with h (h .ad) (h .text) (h .output) true (take tagSize out)
-accepting (FinishChecking tag) out h = with h (h .ad) (h .text) (h .output) true tag
+accepting (FinishChecking tag) out h = with h (h .ad) (h .text) (h .output ++ out) true tag
 
 -- A refused call adds nothing.
 abbrev pub noting : Answer → Call → (out : List ℕ) → History → History
 noting (Count n) c out h = accepting c out h
 noting (Refused r) c out h = h
 
--- The state and its history, before and after a call, and after calls one after the other.
+-- A state and its history; what a call makes of them, and what a sequence of calls does.
 pub record Play : Type 0 where
   pub state : List ℕ
   pub history : History

@@ -4,3 +4,4 @@ pub mod Demand1
 pub mod Signed
 pub mod History
 pub mod Cutting
+pub mod WholeCutting

@@ -7,7 +7,7 @@ use Rattle.refusals.specs.Signed.{signedOf}
 use Rattle.streams.specs.Calls.{Step}
 
 -- The number that a call answers, and state and output afterwards.
-pub record Returns (t : Step) (r : ℤ) (state output : List ℕ) : Type 0 where
+pub record Returns (t : Step) (r : ℤ) (left output : List ℕ) : Type 0 where
   pub number : r ≡ signedOf (t .answer)
-  pub kept : state ≡ t .state
+  pub state : left ≡ t .state
   pub written : output ≡ t .output

@@ -1,12 +1,10 @@
 // The calls on streams: payloads that arrive in pieces. A call reads the stream from the state, judges, goes on, and writes it back.
 ghost use mathlib.Core.Path.{_≡_};
-ghost use mathlib.Core.Bool.{cond};
 ghost use mathlib.Core.List.{[]};
-ghost use lib.Dec.{eqb};
-ghost use lib.ListN.{length};
 ghost use Rattle.refusals.specs.Signed.{capped};
 ghost use Rattle.streams.specs.Calls as calls;
 ghost use Rattle.streams.specs.Calls.{step, called};
+ghost use Rattle.streams.specs.Demand1.{Demand1};
 use crate::going::put;
 use grain128aead::limits::AD_LIMIT;
 use grain128aead::limits::MESSAGE_LIMIT;
@@ -32,6 +30,7 @@ pub fn begin(
     announced: usize,
 ) -> Answer
     ensures called { λ r. ⌜ step r (now (state .exit)) [] ≡ called (calls.Begin kind edition (now (key .entry)) (now (nonce .entry)) announced) (now (state .entry)) ⌝ }
+    ensures demand1 { λ r. ⌜ Demand1 (calls.Begin kind edition (now (key .entry)) (now (nonce .entry)) announced) (now (state .entry)) (step r (now (state .exit)) []) ⌝ }
     ensures fits { λ r. ⌜ capped r ≡ r ⌝ }
 {
     let unknown = !editions::known(edition);
@@ -55,6 +54,7 @@ pub fn begin(
 // Takes a piece of AD.
 pub fn ad(kind: Kind, state: &mut [u8], piece: &[u8]) -> Answer
     ensures called { λ r. ⌜ step r (now (state .exit)) [] ≡ called (calls.Ad kind (now (piece .entry))) (now (state .entry)) ⌝ }
+    ensures demand1 { λ r. ⌜ Demand1 (calls.Ad kind (now (piece .entry))) (now (state .entry)) (step r (now (state .exit)) []) ⌝ }
     ensures fits { λ r. ⌜ capped r ≡ r ⌝ }
 {
     let Held::Sound(x) = stream_state::read(MESSAGE_LIMIT, state) else {
@@ -75,6 +75,7 @@ pub fn ad(kind: Kind, state: &mut [u8], piece: &[u8]) -> Answer
 // Takes a piece of message; its ciphertext goes to the front of the output.
 pub fn message(state: &mut [u8], piece: &[u8], out: &mut [u8]) -> Answer
     ensures called { λ r. ⌜ step r (now (state .exit)) (now (out .exit)) ≡ called (calls.Message (now (piece .entry)) (now (out .entry))) (now (state .entry)) ⌝ }
+    ensures demand1 { λ r. ⌜ Demand1 (calls.Message (now (piece .entry)) (now (out .entry))) (now (state .entry)) (step r (now (state .exit)) (now (out .exit))) ⌝ }
     ensures fits { λ r. ⌜ capped r ≡ r ⌝ }
 {
     let Held::Sound(x) = stream_state::read(MESSAGE_LIMIT, state) else {
@@ -98,6 +99,7 @@ pub fn message(state: &mut [u8], piece: &[u8], out: &mut [u8]) -> Answer
 // Takes a piece of ciphertext. The message that it hides is handed to the machine alone.
 pub fn ciphertext(state: &mut [u8], piece: &[u8]) -> Answer
     ensures called { λ r. ⌜ step r (now (state .exit)) [] ≡ called (calls.Ciphertext (now (piece .entry))) (now (state .entry)) ⌝ }
+    ensures demand1 { λ r. ⌜ Demand1 (calls.Ciphertext (now (piece .entry))) (now (state .entry)) (step r (now (state .exit)) []) ⌝ }
     ensures fits { λ r. ⌜ capped r ≡ r ⌝ }
 {
     let Held::Sound(x) = stream_state::read(MESSAGE_LIMIT, state) else {
@@ -120,6 +122,7 @@ pub fn ciphertext(state: &mut [u8], piece: &[u8]) -> Answer
 // Ends a sealing stream: the tag goes to the front of the output.
 pub fn finish_sealing(state: &mut [u8], out: &mut [u8]) -> Answer
     ensures called { λ r. ⌜ step r (now (state .exit)) (now (out .exit)) ≡ called (calls.FinishSealing (now (out .entry))) (now (state .entry)) ⌝ }
+    ensures demand1 { λ r. ⌜ Demand1 (calls.FinishSealing (now (out .entry))) (now (state .entry)) (step r (now (state .exit)) (now (out .exit))) ⌝ }
     ensures fits { λ r. ⌜ capped r ≡ r ⌝ }
 {
     let Held::Sound(x) = stream_state::read(MESSAGE_LIMIT, state) else {
@@ -141,6 +144,7 @@ pub fn finish_sealing(state: &mut [u8], out: &mut [u8]) -> Answer
 // Ends a checking stream, if the tag is the computed one.
 pub fn finish_checking(state: &mut [u8], tag: &[u8]) -> Answer
     ensures called { λ r. ⌜ step r (now (state .exit)) [] ≡ called (calls.FinishChecking (now (tag .entry))) (now (state .entry)) ⌝ }
+    ensures demand1 { λ r. ⌜ Demand1 (calls.FinishChecking (now (tag .entry))) (now (state .entry)) (step r (now (state .exit)) []) ⌝ }
     ensures fits { λ r. ⌜ capped r ≡ r ⌝ }
 {
     let Held::Sound(x) = stream_state::read(MESSAGE_LIMIT, state) else {

@@ -9,6 +9,7 @@ use Rattle.stream_checks.proofs.Turns.{ad-in-turn}
 use Rattle.stream_state.specs.declared.Session.{Session}
 use Rattle.stream_state.specs.Layout.{heldOf}
 use Rattle.streams.specs.Calls.{Ad}
+use Rattle.streams.proofs.Demand1.{answered}
 use Rattle.streams.proofs.Engines.{absorbed}
 use Rattle.streams.proofs.Settled.{unsound, called-unsound, Holding, state-sized, announced-small, passed-clear, judgementOf, called-failed, called-passed, put-step}
 use Rattle.streams.proofs.ad.Statement.{statement}
@@ -31,7 +32,7 @@ unfolding messageLimit
 returns c =
     let d = c .before .before in
     let a = d .before .before .before .before .args in
-    (called-unsound (Ad (a .kind) (a .piece .now)) tt (a .state .now) (unsound (a .state .now) (d .read .ensures) (c .enum-told .given .1)), refl)
+    answered _ _ (called-unsound (Ad (a .kind) (a .piece .now)) tt (a .state .now) (unsound (a .state .now) (d .read .ensures) (c .enum-told .given .1))) refl
 
 ad-out-of-turn-requires : tie.Need-ad-out-of-turn-requires
 ad-out-of-turn-requires c κs = search needs
@@ -83,7 +84,7 @@ returns-2 c =
     let j = r .before .before in
     let t = j .before .before .before .before in
     let a = t .before .before .before .before .before .before .args in
-    (called-failed (Ad (a .kind) (a .piece .now)) tt (holding t) (sym (judged j) ∙ r .r .given .1), refl)
+    answered _ _ (called-failed (Ad (a .kind) (a .piece .now)) tt (holding t) (sym (judged j) ∙ r .r .given .1)) refl
 
 same-length-3 : tie.Need-same-length-3
 same-length-3 c = search needs
@@ -96,11 +97,11 @@ returns-3 c =
     let told = e .before .before in
     let j = told .before .before in
     let t = j .before .before .before .before in
-    let a = t .before .before .before .before .before .before .args in (
-      put-step _ (a .state .now) (state-sized (holding t)) (absorbed (read-as t) (a .piece .now) (e .absorb-all .result) (m .more-ad .result) (e .absorb-all .ensures) (m .more-ad .ensures)) (p .put .ensures .0) (p .put .ensures .1 .0) refl
-          ∙ called-passed (Ad (a .kind) (a .piece .now)) tt (holding t) (sym (judged j) ∙ told .enum-told2 .given .1) refl,
-      p .put .ensures .1 .1,
-    )
+    let a = t .before .before .before .before .before .before .args in
+    answered _ _
+    (put-step _ (a .state .now) (state-sized (holding t)) (absorbed (read-as t) (a .piece .now) (e .absorb-all .result) (m .more-ad .result) (e .absorb-all .ensures) (m .more-ad .ensures)) (p .put .ensures .0) (p .put .ensures .1 .0) refl
+    ∙ called-passed (Ad (a .kind) (a .piece .now)) tt (holding t) (sym (judged j) ∙ told .enum-told2 .given .1) refl)
+    (p .put .ensures .1 .1)
 
 pub ad-spec : {M : Type 1} → statement M
 ad-spec =

@@ -6,6 +6,7 @@ use native.Mathlib.Omega.{arith}
 use borrow.Author.Needs.{needs}
 use lib.ListN.{length}
 use Rattle.grain128aead.specs.Sizes.{adLimit}
+use Rattle.streams.proofs.Demand1.{answered}
 use Rattle.streams.proofs.Engines.{starts}
 use Rattle.streams.proofs.Settled.{put-step, Begins, beginJudgement, begins, begin-failed, begin-passed}
 use Rattle.streams.proofs.begin.Statement.{statement}
@@ -63,7 +64,7 @@ returns c =
     let r = c .before in
     let j = r .before .before in
     let a = j .before .before .before .before .before .args in
-    (begin-failed (a .kind) (a .edition) (a .key .now) (a .nonce .now) (a .announced) (a .state .now) (sym (judged j) ∙ r .r .given .1), refl)
+    answered _ _ (begin-failed (a .kind) (a .edition) (a .key .now) (a .nonce .now) (a .announced) (a .state .now) (sym (judged j) ∙ r .r .given .1)) refl
 
 same-length : tie.Need-same-length
 same-length c = search needs
@@ -76,12 +77,12 @@ returns-2 c =
     let e = s .before in
     let told = e .before in
     let j = told .before .before in
-    let a = j .before .before .before .before .before .args in (
-      put-step _ (a .state .now) (started told .sized)
-          (starts (a .kind) (a .key .now) (a .nonce .now) (a .announced) (s .start .result) (e .named .ensures) (s .start .ensures) (n .number .ensures)) (p .put .ensures .0) (p .put .ensures .1 .0) refl
-          ∙ begin-passed (a .kind) (a .edition) (a .key .now) (a .nonce .now) (a .announced) (a .state .now) (sym (judged j) ∙ told .enum-told .given .1),
-      p .put .ensures .1 .1,
-    )
+    let a = j .before .before .before .before .before .args in
+    answered _ _
+    (put-step _ (a .state .now) (started told .sized)
+    (starts (a .kind) (a .key .now) (a .nonce .now) (a .announced) (s .start .result) (e .named .ensures) (s .start .ensures) (n .number .ensures)) (p .put .ensures .0) (p .put .ensures .1 .0) refl
+    ∙ begin-passed (a .kind) (a .edition) (a .key .now) (a .nonce .now) (a .announced) (a .state .now) (sym (judged j) ∙ told .enum-told .given .1))
+    (p .put .ensures .1 .1)
 
 pub begin-spec : {M : Type 1} → statement M
 begin-spec =

@@ -7,6 +7,7 @@ use Rattle.grain128aead.specs.Sizes.{messageLimit}
 use Rattle.stream_state.specs.declared.Session.{Session}
 use Rattle.stream_state.specs.Layout.{heldOf}
 use Rattle.streams.specs.Calls.{Ciphertext}
+use Rattle.streams.proofs.Demand1.{answered}
 use Rattle.streams.proofs.Engines.{deciphered}
 use Rattle.streams.proofs.Settled.{unsound, called-unsound, Holding, state-sized, message-fits, passed-clear, judgementOf, called-failed, called-passed, put-step}
 use Rattle.streams.proofs.ciphertext.Statement.{statement}
@@ -29,7 +30,7 @@ unfolding messageLimit
 returns c =
     let d = c .before .before in
     let a = d .before .before .before .before .args in
-    (called-unsound (Ciphertext (a .piece .now)) tt (a .state .now) (unsound (a .state .now) (d .read .ensures) (c .enum-told .given .1)), refl)
+    answered _ _ (called-unsound (Ciphertext (a .piece .now)) tt (a .state .now) (unsound (a .state .now) (d .read .ensures) (c .enum-told .given .1))) refl
 
 out-of-turn-requires : tie.Need-out-of-turn-requires
 out-of-turn-requires c κs = search needs
@@ -81,7 +82,7 @@ returns-2 c =
     let r = c .before in
     let j = r .before .before in
     let t = j .before .before .before .before .before in
-    (called-failed (Ciphertext (t .before .before .before .before .before .before .args .piece .now)) tt (holding t) (sym (judged j) ∙ r .r .given .1), refl)
+    answered _ _ (called-failed (Ciphertext (t .before .before .before .before .before .before .args .piece .now)) tt (holding t) (sym (judged j) ∙ r .r .given .1)) refl
 
 same-length-3 : tie.Need-same-length-3
 same-length-3 c = search needs
@@ -94,11 +95,11 @@ returns-3 c =
     let told = e .before .before in
     let j = told .before .before in
     let t = j .before .before .before .before .before in
-    let a = t .before .before .before .before .before .before .args in (
-      put-step _ (a .state .now) (state-sized (holding t)) (deciphered (read-as t) (a .piece .now) (e .decipher-all .result) (m .more-message .result) (e .decipher-all .ensures) (m .more-message .ensures)) (p .put .ensures .0) (p .put .ensures .1 .0) refl
-          ∙ called-passed (Ciphertext (a .piece .now)) tt (holding t) (sym (judged j) ∙ told .enum-told2 .given .1) refl,
-      p .put .ensures .1 .1,
-    )
+    let a = t .before .before .before .before .before .before .args in
+    answered _ _
+    (put-step _ (a .state .now) (state-sized (holding t)) (deciphered (read-as t) (a .piece .now) (e .decipher-all .result) (m .more-message .result) (e .decipher-all .ensures) (m .more-message .ensures)) (p .put .ensures .0) (p .put .ensures .1 .0) refl
+    ∙ called-passed (Ciphertext (a .piece .now)) tt (holding t) (sym (judged j) ∙ told .enum-told2 .given .1) refl)
+    (p .put .ensures .1 .1)
 
 pub ciphertext-spec : {M : Type 1} → statement M
 ciphertext-spec =

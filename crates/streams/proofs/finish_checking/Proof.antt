@@ -15,6 +15,7 @@ use Rattle.stream_state.specs.declared.Session.{Session}
 use Rattle.stream_state.specs.Stream.{streamOf}
 use Rattle.stream_state.specs.Layout.{heldOf}
 use Rattle.streams.specs.Calls.{FinishChecking}
+use Rattle.streams.proofs.Demand1.{answered}
 use Rattle.streams.proofs.Engines.{tag-same, tag-differs}
 use Rattle.streams.proofs.Settled.{unsound, called-unsound, Holding, state-sized, passed-clear, judgementOf, wrongTag, called-failed, called-passed, called-differs, put-step}
 use Rattle.streams.proofs.finish_checking.Statement.{statement}
@@ -37,7 +38,7 @@ unfolding messageLimit
 returns c =
     let d = c .before .before in
     let a = d .before .before .before .before .args in
-    (called-unsound (FinishChecking (a .tag .now)) tt (a .state .now) (unsound (a .state .now) (d .read .ensures) (c .enum-told .given .1)), refl)
+    answered _ _ (called-unsound (FinishChecking (a .tag .now)) tt (a .state .now) (unsound (a .state .now) (d .read .ensures) (c .enum-told .given .1))) refl
 
 out-of-turn-requires : tie.Need-out-of-turn-requires
 out-of-turn-requires c κs = search needs
@@ -107,7 +108,7 @@ returns-2 c =
     let r = c .before in
     let j = r .before .before in
     let t = j .before .before .before .before in
-    (called-failed (FinishChecking (t .before .before .before .before .before .before .args .tag .now)) tt (holding t) (sym (judged j) ∙ r .r .given .1), refl)
+    answered _ _ (called-failed (FinishChecking (t .before .before .before .before .before .before .args .tag .now)) tt (holding t) (sym (judged j) ∙ r .r .given .1)) refl
 
 same-length-3 : tie.Need-same-length-3
 same-length-3 c = search needs
@@ -119,11 +120,11 @@ returns-3 c =
     let w = n .before .before in
     let told = w .before .before .before in
     let t = told .before .before .before .before .before .before in
-    let a = t .before .before .before .before .before .before .args in (
-      put-step (n .ended .result) (a .state .now) (state-sized (holding t)) (n .ended .ensures) (p .put .ensures .0) (p .put .ensures .1 .0) refl
-          ∙ called-passed (FinishChecking (a .tag .now)) tt (holding t) (passed told) (compared w .0 (n .before .if1 .taken)),
-      p .put .ensures .1 .1,
-    )
+    let a = t .before .before .before .before .before .before .args in
+    answered _ _
+    (put-step (n .ended .result) (a .state .now) (state-sized (holding t)) (n .ended .ensures) (p .put .ensures .0) (p .put .ensures .1 .0) refl
+    ∙ called-passed (FinishChecking (a .tag .now)) tt (holding t) (passed told) (compared w .0 (n .before .if1 .taken)))
+    (p .put .ensures .1 .1)
 
 same-length-4 : tie.Need-same-length-4
 same-length-4 c = search needs
@@ -133,7 +134,7 @@ returns-4 c =
     let w = c .before in
     let told = w .before .before .before in
     let t = told .before .before .before .before .before .before in
-    (called-differs (FinishChecking (t .before .before .before .before .before .before .args .tag .now)) tt (holding t) (passed told) (compared w .1 (c .if1 .left)), refl)
+    answered _ _ (called-differs (FinishChecking (t .before .before .before .before .before .before .args .tag .now)) tt (holding t) (passed told) (compared w .1 (c .if1 .left))) refl
 
 pub finish-checking-spec : {M : Type 1} → statement M
 finish-checking-spec =

@@ -11,6 +11,7 @@ use Rattle.grain128aead.specs.Sizes.{messageLimit}
 use Rattle.stream_state.specs.declared.Session.{Session}
 use Rattle.stream_state.specs.Layout.{heldOf}
 use Rattle.streams.specs.Calls.{FinishSealing}
+use Rattle.streams.proofs.Demand1.{answered}
 use Rattle.streams.proofs.Engines.{tag-output}
 use Rattle.streams.proofs.Settled.{unsound, called-unsound, Holding, state-sized, passed-clear, judgementOf, called-failed, called-passed, put-step}
 use Rattle.streams.proofs.finish_sealing.Statement.{statement}
@@ -33,7 +34,7 @@ unfolding messageLimit
 returns c =
     let d = c .before .before in
     let a = d .before .before .before .before .args in
-    (called-unsound (FinishSealing (a .out .now)) tt (a .state .now) (unsound (a .state .now) (d .read .ensures) (c .enum-told .given .1)), refl)
+    answered _ _ (called-unsound (FinishSealing (a .out .now)) tt (a .state .now) (unsound (a .state .now) (d .read .ensures) (c .enum-told .given .1))) refl
 
 out-of-turn-requires : tie.Need-out-of-turn-requires
 out-of-turn-requires c κs = search needs
@@ -93,7 +94,7 @@ returns-2 c =
     let r = c .before in
     let j = r .before .before in
     let t = j .before .before .before .before in
-    (called-failed (FinishSealing (t .before .before .before .before .before .before .args .out .now)) tt (holding t) (sym (judged j) ∙ r .r .given .1), refl)
+    answered _ _ (called-failed (FinishSealing (t .before .before .before .before .before .before .args .out .now)) tt (holding t) (sym (judged j) ∙ r .r .given .1)) refl
 
 same-length-3 : tie.Need-same-length-3
 same-length-3 c = search needs
@@ -110,12 +111,12 @@ returns-3 c =
     let told = f .before .before in
     let j = told .before .before in
     let t = j .before .before .before .before in
-    let a = t .before .before .before .before .before .before .args in (
-      put-step (n .ended .result) (a .state .now) (state-sized (holding t)) (n .ended .ensures) (p .put .ensures .0) (p .put .ensures .1 .0)
-          (tag-output (read-as t) (f .finish .result) (f .finish .ensures) (a .out .now) (room told) (s .spell .ensures))
-          ∙ called-passed (FinishSealing (a .out .now)) tt (holding t) (sym (judged j) ∙ told .enum-told2 .given .1) refl,
-      p .put .ensures .1 .1,
-    )
+    let a = t .before .before .before .before .before .before .args in
+    answered _ _
+    (put-step (n .ended .result) (a .state .now) (state-sized (holding t)) (n .ended .ensures) (p .put .ensures .0) (p .put .ensures .1 .0)
+    (tag-output (read-as t) (f .finish .result) (f .finish .ensures) (a .out .now) (room told) (s .spell .ensures))
+    ∙ called-passed (FinishSealing (a .out .now)) tt (holding t) (sym (judged j) ∙ told .enum-told2 .given .1) refl)
+    (p .put .ensures .1 .1)
 
 pub finish-sealing-spec : {M : Type 1} → statement M
 finish-sealing-spec =

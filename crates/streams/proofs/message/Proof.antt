@@ -8,6 +8,7 @@ use Rattle.grain128aead.specs.Sizes.{messageLimit}
 use Rattle.stream_state.specs.declared.Session.{Session}
 use Rattle.stream_state.specs.Layout.{heldOf}
 use Rattle.streams.specs.Calls.{Message}
+use Rattle.streams.proofs.Demand1.{answered}
 use Rattle.streams.proofs.Engines.{enciphered, enciphered-output}
 use Rattle.streams.proofs.Settled.{unsound, called-unsound, Holding, state-sized, message-fits, passed-clear, judgementOf, called-failed, called-passed, put-step}
 use Rattle.streams.proofs.message.Statement.{statement}
@@ -30,7 +31,7 @@ unfolding messageLimit
 returns c =
     let d = c .before .before in
     let a = d .before .before .before .before .before .args in
-    (called-unsound (Message (a .piece .now) (a .out .now)) tt (a .state .now) (unsound (a .state .now) (d .read .ensures) (c .enum-told .given .1)), refl)
+    answered _ _ (called-unsound (Message (a .piece .now) (a .out .now)) tt (a .state .now) (unsound (a .state .now) (d .read .ensures) (c .enum-told .given .1))) refl
 
 out-of-turn-requires : tie.Need-out-of-turn-requires
 out-of-turn-requires c κs = search needs
@@ -84,7 +85,7 @@ returns-2 c =
     let j = r .before .before in
     let t = j .before .before .before .before .before in
     let a = t .before .before .before .before .before .before .before .args in
-    (called-failed (Message (a .piece .now) (a .out .now)) tt (holding t) (sym (judged j) ∙ r .r .given .1), refl)
+    answered _ _ (called-failed (Message (a .piece .now) (a .out .now)) tt (holding t) (sym (judged j) ∙ r .r .given .1)) refl
 
 same-length-3 : tie.Need-same-length-3
 same-length-3 c = search needs
@@ -102,12 +103,12 @@ returns-3 c =
     let t = j .before .before .before .before .before in
     let a = t .before .before .before .before .before .before .before .args in
     let passed = sym (judged j) ∙ told .enum-told2 .given .1 in
-    let room = ltb-false (length (a .out .now)) (length (a .piece .now)) (passed-clear _ _ _ _ passed .room) in (
-      put-step _ (a .state .now) (state-sized (holding t)) (enciphered (read-as t) (a .piece .now) (e .encipher-all .result) (m .more-message .result) room (e .encipher-all .ensures) (m .more-message .ensures)) (p .put .ensures .0) (p .put .ensures .1 .0)
-          (enciphered-output (read-as t) (a .piece .now) (e .encipher-all .result) (m .more-message .result) room (e .encipher-all .ensures))
-          ∙ called-passed (Message (a .piece .now) (a .out .now)) tt (holding t) passed refl,
-      p .put .ensures .1 .1,
-    )
+    let room = ltb-false (length (a .out .now)) (length (a .piece .now)) (passed-clear _ _ _ _ passed .room) in
+    answered _ _
+    (put-step _ (a .state .now) (state-sized (holding t)) (enciphered (read-as t) (a .piece .now) (e .encipher-all .result) (m .more-message .result) room (e .encipher-all .ensures) (m .more-message .ensures)) (p .put .ensures .0) (p .put .ensures .1 .0)
+    (enciphered-output (read-as t) (a .piece .now) (e .encipher-all .result) (m .more-message .result) room (e .encipher-all .ensures))
+    ∙ called-passed (Message (a .piece .now) (a .out .now)) tt (holding t) passed refl)
+    (p .put .ensures .1 .1)
 
 pub message-spec : {M : Type 1} → statement M
 message-spec =

@@ -23,7 +23,7 @@ same-length-2 c = search needs
 returns : tie.Need-returns
 returns c =
     let s = c .before .before .before .before .before in
-    returned _ _ _ _ _ (toZ-ofZ w64 (c .signed .result) (record { sfits = c .signed .ok }) ∙ c .signed .ensures) (s .message .ensures .1) (s .message .ensures .0)
+    returned _ _ _ _ _ (toZ-ofZ w64 (c .signed .result) (record { sfits = c .signed .ok }) ∙ c .signed .ensures) (s .message .ensures .1 .1) (s .message .ensures .0)
 
 pub tikhoplav-sealing-message-spec : {M : Type 1} → statement M
 tikhoplav-sealing-message-spec =

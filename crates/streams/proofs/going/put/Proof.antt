@@ -3,7 +3,6 @@
 use mathlib.Core.Path.{_≡_, ap}
 use Prim.Native.Nat.{ℕ}
 use borrow.Author.Needs.{needs}
-use Rattle.refusals.specs.declared.Answer.{Answer}
 use Rattle.refusals.specs.declared.Answer.the-variants.{Count}
 use Rattle.refusals.proofs.Returned.{capped-fits}
 use Rattle.streams.proofs.going.put.Statement.{statement}
