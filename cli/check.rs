@@ -24,7 +24,8 @@ impl Stream {
 }
 
 /// Takes AD and sealed input in pieces, and writes nothing. The input is read on behind a refusal:
-/// wrong hex and a failure to read come first, as they do for `open`.
+/// wrong hex and a failure to read come first, as they do for `open`. Only of an input that is too
+/// long the rest is not read.
 pub fn run(options: &Options) -> Result<(), Failure> {
     let cipher = Cipher::read(options)?;
     let mut ad = Ad::open(options)?;

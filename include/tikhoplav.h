@@ -44,9 +44,9 @@
  *   reads, or touches one that it writes.
  *
  *   A call takes at most 2048 bytes of stack below its caller's frame. This is measured, up to the largest lengths, and
- *   not proved: 1544 bytes for sealing and opening, 1848 for making and reading a frame, with the memcpy and the memset
- *   of the GNU C library. Where these stand in a shared library and are bound at their first use, the dynamic linker
- *   takes stack of its own in those calls (about 3 KiB more on Linux).
+ *   not proved: 1544 bytes for sealing and opening, 1848 for making and reading a frame, 536 for the calls on streams,
+ *   with the memcpy and the memset of the GNU C library. Where these stand in a shared library and are bound at their
+ *   first use, the dynamic linker takes stack of its own in those calls (about 3 KiB more on Linux).
  *
  * What the caller owes
  *
@@ -513,13 +513,13 @@ int64_t tikhoplav_length_code(size_t length);
  *
  *   The state is plain bytes, without pointers and of any alignment. It may be stored, copied, moved and compared, and
  *   a copy goes on from where it was made. It is as secret as the key: whoever has it can decipher all of the payload,
- *   and make a tag for another. A finished one is no less secret. Wiping it is the caller's.
+ *   and make a tag for another. A finished one is no less secret. The caller wipes it.
  *
  *   A state that can't occur is refused: with another length, kind, phase or edition; with more of the AD taken than
  *   its length, or more of the message than TIKHOPLAV_MESSAGE_MAX; with some of the message taken, or finished, before
  *   the AD is complete; with a byte behind place 56 that is not zero. The registers may hold anything. Damage to them,
- *   or to the rest where it still can occur, no call can notice: ciphertext, tag and verdict are then no longer those
- *   of the call on whole strings.
+ *   or damage elsewhere that leaves a state that can occur, is not noticed: ciphertext, tag, verdict and clocks need
+ *   then no longer be those of the call on whole strings.
  *
  * What the calls on streams answer
  *
@@ -553,9 +553,10 @@ int64_t tikhoplav_length_code(size_t length);
  *   - All that is owed for sealing and opening.
  *   - A state is used by one call at a time. Streams with states of their own may run in as many threads.
  *   - A sealing stream whose state was copied goes on in one of the copies only. If it goes on in two with different
- *     messages, that is one nonce for two sealings. (The same holds for a stored state that is restored twice, and for
- *     a begin with the nonce of a stream that was given up.) A checking stream may go on in any number of copies.
- *   - The nonce and the AD's length are no part of the payload, and neither is the edition.
+ *     messages, that is one nonce for two sealings. (The same holds for a stored state that is restored after the
+ *     stream has gone on from it, for a copy that is finished to have a tag in between, and for a begin with the nonce
+ *     of a stream that was given up.) A checking stream may go on in any number of copies.
+ *   - The checking side has key, nonce, edition, AD and the AD's length from elsewhere: the payload has none of them.
  *   - Nothing that a checking stream has taken is known to be genuine before finishing has accepted the tag.
  *
  * A whole program that seals and checks in pieces (a real key is random and secret)

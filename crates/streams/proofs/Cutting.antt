@@ -75,6 +75,20 @@ occurs h l = record {
     behind true full = inr (full refl)
     behind false full = inl refl
 
+-- A legal history with these in place of its own is legal as far as they are.
+legal-with : (h : History) {ad text output : List ℕ} {ended : Bool} {tag : List ℕ} → Legal h → length ad ≤ h .announced → (text ≡ []) ⊎ (length ad ≡ h .announced) → length text ≤ messageLimit
+    → (ended ≡ true → length ad ≡ h .announced) → Legal (with h ad text output ended tag)
+legal-with h l ad behind text ended = record {
+  keySized = l .keySized;
+  nonceSized = l .nonceSized;
+  keyNotBlank = l .keyNotBlank;
+  announcedFits = l .announcedFits;
+  adFits = ad;
+  textBehindAd = behind;
+  textFits = text;
+  endedBehindAd = ended;
+}
+
 -- ---- a call that is accepted
 
 pub not-ended : (b : Bool) → digit b ≡ 0 → b ≡ false
@@ -114,16 +128,7 @@ module _ (h : History) (k : Kept h) where
   ad-first kind piece unended fits none = record {
     same = ad-goes-on h piece (h .output ++ []) unended none;
     kept = record {
-      legal = record {
-        keySized = k .legal .keySized;
-        nonceSized = k .legal .nonceSized;
-        keyNotBlank = k .legal .keyNotBlank;
-        announcedFits = k .legal .announcedFits;
-        adFits = omega (arith, length-append (h .ad) piece, fits);
-        textBehindAd = inl none;
-        textFits = k .legal .textFits;
-        endedBehindAd = λ ended. absurd (true≢false (sym ended ∙ unended));
-      };
+      legal = legal-with h (k .legal) (omega (arith, length-append (h .ad) piece, fits)) (inl none) (k .legal .textFits) (λ ended. absurd (true≢false (sym ended ∙ unended)));
       output = append-nil (h .output) ∙ k .output ∙ handed (h .kind);
       tagged = λ ended. absurd (true≢false (sym ended ∙ unended));
     };
@@ -173,16 +178,7 @@ module _ (h : History) (k : Kept h) where
   text-kept : (piece output : List ℕ) {kind : Kind} → InTurn kind → length (h .text ++ piece) ≤ messageLimit
       → output ≡ handedOut (h .kind) (with h (h .ad) (h .text ++ piece) output (h .ended) (h .tag)) → Kept (with h (h .ad) (h .text ++ piece) output (h .ended) (h .tag))
   text-kept piece output i fits handed = record {
-    legal = record {
-      keySized = k .legal .keySized;
-      nonceSized = k .legal .nonceSized;
-      keyNotBlank = k .legal .keyNotBlank;
-      announcedFits = k .legal .announcedFits;
-      adFits = k .legal .adFits;
-      textBehindAd = inr (i .full);
-      textFits = fits;
-      endedBehindAd = λ ended. i .full;
-    };
+    legal = legal-with h (k .legal) (k .legal .adFits) (inr (i .full)) (fits) (λ ended. i .full);
     output = handed;
     tagged = λ ended. absurd (true≢false (sym ended ∙ i .unended));
   }
@@ -232,16 +228,7 @@ module _ (h : History) (k : Kept h) where
   finish-leads kind output given i written right = record {
     same = finish-goes-on h (i .unended) output given;
     kept = record {
-      legal = record {
-        keySized = k .legal .keySized;
-        nonceSized = k .legal .nonceSized;
-        keyNotBlank = k .legal .keyNotBlank;
-        announcedFits = k .legal .announcedFits;
-        adFits = k .legal .adFits;
-        textBehindAd = inr (i .full);
-        textFits = k .legal .textFits;
-        endedBehindAd = λ ended. i .full;
-      };
+      legal = legal-with h (k .legal) (k .legal .adFits) (inr (i .full)) (k .legal .textFits) (λ ended. i .full);
       output = written ∙ k .output ∙ handed (h .kind);
       tagged = λ ended. right ∙ tag-reached h (i .unended) (i .full);
     };
