@@ -1,4 +1,6 @@
 // The calls on streams: payloads that arrive in pieces. A call reads the stream from the state, judges, goes on, and writes it back.
+mod going;
+
 ghost use mathlib.Core.Path.{_≡_};
 ghost use mathlib.Core.List.{[]};
 ghost use Rattle.refusals.specs.Signed.{capped};
@@ -17,8 +19,6 @@ use stream_checks::counts::Counts;
 use stream_checks::counts::Kind;
 use stream_state::Held;
 use stream_state::Session;
-
-mod going;
 
 // Begins a stream in the edition that a number names.
 pub fn begin(
