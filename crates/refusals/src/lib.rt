@@ -20,6 +20,8 @@ pub enum Refusal {
     OutOfTurn,
     UnsoundState,
     BlankKey,
+    NonceMode,
+    TagLength,
     UnknownEdition,
 }
 
@@ -55,6 +57,8 @@ pub fn number(r: Refusal) -> u8
         Refusal::OutOfTurn => 13,
         Refusal::UnsoundState => 14,
         Refusal::BlankKey => 15,
+        Refusal::NonceMode => 19,
+        Refusal::TagLength => 20,
         Refusal::UnknownEdition => 23,
     }
 }

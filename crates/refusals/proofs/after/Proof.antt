@@ -17,7 +17,7 @@ returns-2 : tie.Need-returns-2
 returns-2 c = rw (c .before .enum-told .given .1, c .if1 .taken)
 
 returns-3 : tie.Need-returns-3
-returns-3 c = search needs
+returns-3 c = rw (c .before .enum-told .given .1, c .if1 .left)
 
 pub after-spec : {M : Type 1} → statement M
 after-spec = tie.close (tie.spec enum-known-rows enum-told returns returns-2 returns-3)

@@ -1,0 +1,4 @@
+pub mod Modes
+pub mod Common
+pub mod Order
+pub mod Rows
