@@ -18,7 +18,7 @@ use Rattle.refusals.specs.Outcome.{settled, judged}
 use Rattle.refusals.specs.Demand1.{First, Clear, Decides, Demand1}
 
 -- A check passes or fails, a call counts or refuses, and each with one refusal.
-passed-not-failed : {c : Check} {r : Refusal} → c ≡ Passed → c ≡ Failed r → ⊥
+pub passed-not-failed : {c : Check} {r : Refusal} → c ≡ Passed → c ≡ Failed r → ⊥
 passed-not-failed p q = let z : _≡_ {A = ℕ} 0 1 = cc in omega arith
 
 pub count-not-refused : {a : Answer} {n : ℕ} {r : Refusal} → a ≡ Count n → a ≡ Refused r → ⊥

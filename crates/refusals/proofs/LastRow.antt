@@ -9,11 +9,23 @@ use Rattle.refusals.specs.declared.Check.{Check}
 use Rattle.refusals.specs.declared.Check.the-variants.{Passed, Failed}
 use Rattle.refusals.specs.Refusals.{after, check}
 use Rattle.refusals.specs.Outcome.{settled, refused, success}
+use Rattle.refusals.specs.Demand1.{Accepts}
+use Rattle.refusals.proofs.Demand1.{passed-not-failed, count-not-refused}
 use Rattle.refusals.proofs.Rows.{check-in-order}
 
 pub after-false : (c : Check) (r : Refusal) → after c r false ≡ c
 after-false Passed r = refl
 after-false (Failed q) r = refl
+
+pub after-passed : (c : Check) (r : Refusal) (applies : Bool) → after c r applies ≡ Passed → (c ≡ Passed) × (applies ≡ false)
+after-passed Passed r true e = absurd (passed-not-failed e refl)
+after-passed Passed r false e = (refl, refl)
+after-passed (Failed q) r applies e = absurd (passed-not-failed e refl)
+
+pub settled-passed : (c : Check) (written out : List ℕ) → Accepts (settled c written out) → c ≡ Passed
+unfolding settled
+settled-passed Passed written out a = refl
+settled-passed (Failed q) written out a = absurd (count-not-refused (a .1) refl)
 
 pub check-last : (rs : List Refusal) (r : Refusal) (applies : Refusal → Bool) → check (rs ++ (r ∷ [])) applies ≡ after (check rs applies) r (applies r)
 check-last rs r applies =

@@ -1,0 +1,4 @@
+pub mod Parts
+pub mod Sealing
+pub mod Opening
+pub mod Entry

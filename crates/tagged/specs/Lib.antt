@@ -1,0 +1,3 @@
+pub mod Cipher
+pub mod Payload
+pub mod Demands
