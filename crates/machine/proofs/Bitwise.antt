@@ -16,7 +16,7 @@ use Rattle.bits.proofs.Word.{length-word, word-agrees}
 use Rattle.preoutput.specs.declared.Registers.{Registers}
 use Rattle.strokes.specs.declared.streams.Streamed.{Streamed}
 use Rattle.preoutput.specs.Algebra.{single}
-use Rattle.preoutput.specs.Generator.{Generator, preoutput, plain, everySecond}
+use Rattle.preoutput.specs.Generator.{Generator, preoutput, plain, every}
 use Rattle.preoutput.specs.Words.{generatorOf}
 use Rattle.strokes.specs.Streams.{Keystreams, Streams}
 use Rattle.bits.proofs.Slides.{lowest-bits}
@@ -48,22 +48,22 @@ bits-run n e m s t fits streams absorbed = λ i. record { edition = sym (run-edi
         absorbed ∙ ap (λ (new : List Bool). absorbAll (st .authenticator) (word n m) (places new)) (lowest-bits n (s .authentication) _ fits (streams .authentication))
         ∙ sym
         (run-authenticator st (word n m)
-        ∙ absorbAll-agrees (st .authenticator) (word n m) (registerBits (st .generator)) (places (everySecond single n (plain single (st .generator))))
+        ∙ absorbAll-agrees (st .authenticator) (word n m) (registerBits (st .generator)) (places (every single 2 n (plain single (st .generator))))
         (λ i h. registerBits-places n i (st .generator) (omega (arith, length-word n m))))
 
 -- The keystream of their clocks: the lowest bits of a word, and of its remainder.
-pub bits-keystream : {g : Generator Bool} {r : Registers} {k : ℕ} (n : ℕ) → n ≤ 64 → Keystreams n g r k → word n k ≡ everySecond single n g
+pub bits-keystream : {p : ℕ} {g : Generator Bool} {r : Registers} {k : ℕ} (n : ℕ) → n ≤ 64 → Keystreams p n g r k → word n k ≡ every single p n g
 bits-keystream {k = k} n fits keystreams = lowest-bits n k _ fits (keystreams .keystream)
 
 pub word-remainder : (n x : ℕ) → word n (x % 2 ^ n) ≡ word n x
 word-remainder n x = word-agrees n (x % 2 ^ n) x (mod-mod x (2 ^ n))
 
 -- n bits with their keystream bits added.
-pub bits-crypt : (n : ℕ) (sealing : Bool) (e : Engine) (x k : ℕ) → word n k ≡ everySecond single n (generatorOf (e .registers)) → word n (bitXor x k) ≡ crypt sealing (stateOf e) (word n x)
+pub bits-crypt : (n : ℕ) (sealing : Bool) (e : Engine) (x k : ℕ) → word n k ≡ every single 2 n (generatorOf (e .registers)) → word n (bitXor x k) ≡ crypt sealing (stateOf e) (word n x)
 unfolding stateOf
 bits-crypt n sealing e x k keystream =
     word-xor n x k ∙ ap (λ (r : List Bool). word n x ⊞ r) keystream
-    ∙ sym (crypt-sum sealing (stateOf e) (word n x) ∙ ap (λ (j : ℕ). word n x ⊞ everySecond single j (generatorOf (e .registers))) (length-word n x))
+    ∙ sym (crypt-sum sealing (stateOf e) (word n x) ∙ ap (λ (j : ℕ). word n x ⊞ every single 2 j (generatorOf (e .registers))) (length-word n x))
 
 -- What the machine takes: the bits given when sealing, those that come out when opening.
 pub taken : (n : ℕ) (sealing b : Bool) (x y m : ℕ) → sealing ≡ b → m ≡ cond b x y → word n m ≡ cond sealing (word n x) (word n y)

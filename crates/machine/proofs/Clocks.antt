@@ -3,9 +3,8 @@
 use mathlib.Core.Path.{_≡_, refl, sym, ap, _∙_}
 use mathlib.Core.Bool.{Bool, false}
 use mathlib.Core.List.{List, [], _∷_}
-use Prim.Native.Nat.{ℕ, zero, suc, _+_, _*_, _<_}
+use Prim.Native.Nat.{ℕ, suc, _+_, _*_}
 use native.Mathlib.Omega.{arith}
-use native.Mathlib.Nat.{le-of-suc-le-suc, not-suc-le-zero}
 use native.Mathlib.Numerals.{add-one}
 use lib.ListN.{length, getD}
 use Rattle.bits.specs.Bit.{_⊻_}
@@ -14,7 +13,8 @@ use Rattle.bits.specs.Times.{times}
 use Rattle.bits.proofs.Sum.{getD-sum}
 use Rattle.bits.proofs.Times.{times-last, times-add}
 use Rattle.preoutput.specs.Algebra.{single}
-use Rattle.preoutput.specs.Generator.{Generator, preoutput, plain, everySecond}
+use Rattle.preoutput.specs.Generator.{Generator, preoutput, plain, every}
+use Rattle.preoutput.proofs.Spaced.{every-at}
 use Rattle.authenticator.specs.Authenticator.{absorb, add, move}
 use Rattle.machine.specs.Machine.{State, keystreamBit, step, run}
 use Rattle.machine.specs.Laws.{preoutputAt, Clocks, Keystream}
@@ -44,20 +44,13 @@ clocks st s m = record {
       ∙ ap (λ (k : ℕ). preoutput single (clocked k (st .generator))) (sym (add-one (2 * length s))));
 }
 
-keystream-at : (n j : ℕ) (g : Generator Bool) → j < n → getD (everySecond single n g) j false ≡ preoutput single (clocked (2 * j) g)
-unfolding everySecond times
-keystream-at zero j g h = absurd (not-suc-le-zero h)
-keystream-at (suc n) zero g h = refl
-keystream-at (suc n) (suc j) g h =
-    keystream-at n j (plain single (plain single g)) (le-of-suc-le-suc h) ∙ ap (λ (k : ℕ). preoutput single (clocked k g)) (sym (two-more j))
-
 pub keystream : Keystream
 unfolding preoutputAt
 keystream sealing st before s j h =
     ap (λ (r : List Bool). getD r j false) (crypt-sum sealing (run st before) s)
-    ∙ getD-sum s (everySecond single (length s) (run st before .generator)) j
+    ∙ getD-sum s (every single 2 (length s) (run st before .generator)) j
     ∙ ap (λ (b : Bool). getD s j false ⊻ b)
-    (keystream-at (length s) j (run st before .generator) h
+    (every-at 2 (length s) j (run st before .generator) h
     ∙ ap (λ (g : Generator Bool). preoutput single (clocked (2 * j) g)) (run-clocked st before)
     ∙ ap (preoutput single) (times-add (plain single) (2 * length before) (2 * j) (st .generator))
     ∙ ap (λ (k : ℕ). preoutput single (clocked k (st .generator))) (together (length before)))

@@ -9,11 +9,12 @@ use native.Mathlib.Omega.{arith}
 use lib.ListN.{length}
 use Rattle.bits.specs.Bit.{_⊻_}
 use Rattle.bits.specs.Strings.{_⊞_, places}
+use Rattle.bits.specs.Times.{times}
 use Rattle.bits.proofs.Sum.{length-sum}
 use Rattle.preoutput.specs.Algebra.{single}
-use Rattle.preoutput.specs.Generator.{Generator, preoutput, plain, everySecond}
+use Rattle.preoutput.specs.Generator.{Generator, preoutput, plain, every}
 use Rattle.preoutput.proofs.Sizes.{clock-sized}
-use Rattle.preoutput.proofs.EverySecond.{length-everySecond}
+use Rattle.preoutput.proofs.Spaced.{length-every}
 use Rattle.authenticator.specs.Authenticator.{Authenticator, absorbAll, registerAfter}
 use Rattle.authenticator.proofs.ClosedForm.{independent, absorb-sized}
 use Rattle.machine.specs.Machine.{State, keystreamBit, step, run, crypt}
@@ -66,20 +67,20 @@ run-sized w st (m ∷ s) pos sized = run-sized w (step st m) s pos record {
   authenticator = absorb-sized w (st .authenticator) m _ pos (sized .authenticator);
 }
 
-pub registerBits-places : (n i : ℕ) (g : Generator Bool) → i < n → registerBits g i ≡ places (everySecond single n (plain single g)) i
-unfolding registerBits everySecond
+pub registerBits-places : (n i : ℕ) (g : Generator Bool) → i < n → registerBits g i ≡ places (every single 2 n (plain single g)) i
+unfolding registerBits every times
 registerBits-places zero i g h = absurd (not-suc-le-zero h)
 registerBits-places (suc n) zero g h = refl
 registerBits-places (suc n) (suc i) g h = registerBits-places n i (plain single (plain single g)) (le-of-suc-le-suc h)
 
 -- To encipher and to decipher are both to add the keystream.
-pub crypt-sum : (sealing : Bool) (st : State) (s : List Bool) → crypt sealing st s ≡ s ⊞ everySecond single (length s) (st .generator)
-unfolding crypt keystreamBit step everySecond _⊞_
+pub crypt-sum : (sealing : Bool) (st : State) (s : List Bool) → crypt sealing st s ≡ s ⊞ every single 2 (length s) (st .generator)
+unfolding crypt keystreamBit step every times _⊞_
 crypt-sum sealing st [] = refl
 crypt-sum sealing st (x ∷ s) = ap (λ (r : List Bool). (x ⊻ preoutput single (st .generator)) ∷ r) (crypt-sum sealing (step st (cond sealing x (x ⊻ preoutput single (st .generator)))) s)
 
 pub length-crypt : (sealing : Bool) (st : State) (s : List Bool) → length (crypt sealing st s) ≡ length s
-length-crypt sealing st s = ap length (crypt-sum sealing st s) ∙ length-sum s _ (sym (length-everySecond (st .generator) (length s)))
+length-crypt sealing st s = ap length (crypt-sum sealing st s) ∙ length-sum s _ (sym (length-every 2 (length s) (st .generator)))
 
 pub lengths : (w : ℕ) (st : State) (s : List Bool) → 0 < w → Sized w st → Lengths w st s
 lengths w st s pos sized = record { state = run-sized w st s pos sized; crypted = λ sealing. length-crypt sealing st s }

@@ -1,5 +1,5 @@
 pub mod Published
 pub mod Sizes
 pub mod Words
-pub mod EverySecond
+pub mod Spaced
 pub mod Runs

@@ -4,6 +4,7 @@ use mathlib.Core.List.{List, [], _∷_}
 use Prim.Native.Nat.{ℕ, zero, suc}
 use lib.ListN.{length, getD}
 use Rattle.bits.specs.Strings.{shift}
+use Rattle.bits.specs.Times.{times}
 use Rattle.preoutput.specs.Algebra.{Algebra}
 use Rattle.preoutput.specs.Functions.{y, lfsrBit, nfsrBit}
 
@@ -35,10 +36,10 @@ module _ {A : Type 0} (over : Algebra A) where
   abbrev pub plain : Generator A → Generator A
   plain g = clock g (over .zero) (over .zero)
 
-  -- The pre-outputs of every second of 2n plain clocks, from the first on.
-  unfoldable pub everySecond : ℕ → Generator A → List A
-  everySecond zero g = []
-  everySecond (suc n) g = preoutput g ∷ everySecond n (plain (plain g))
+  -- The pre-outputs of every p-th of p n plain clocks, from the first on.
+  unfoldable pub every : (p : ℕ) → ℕ → Generator A → List A
+  every p zero g = []
+  every p (suc n) g = preoutput g ∷ every p n (times p plain g)
 
   -- The pre-output is added to both new bits.
   abbrev pub fedBack : Generator A → Generator A

@@ -4,7 +4,7 @@ use mathlib.Core.Path.{_≡_, refl, sym, ap, _∙_}
 use mathlib.Core.Bool.{Bool, false}
 use mathlib.Core.List.{List, [], _∷_, _++_, map, map-append, reverse}
 use Prim.Native.Nat.{ℕ, zero, suc, _+_, _*_, _<_}
-use native.Mathlib.Nat.{le-of-suc-le-suc, not-suc-le-zero}
+use native.Mathlib.Nat.{le-of-eq, le-of-suc-le-suc, not-suc-le-zero}
 use native.Mathlib.Omega.{arith}
 use lib.ListN.{length, getD, length-map, List·getD-append}
 use lib.Seq.{getD-append-add}
@@ -13,7 +13,7 @@ use Rattle.bits.specs.Strings.{_⊞_}
 use Rattle.bits.specs.Turned.{turned}
 use Rattle.bits.proofs.Flip.{Flips, length-flip, bits-flip, flip-flip, flip-twice, flip-append, sum-flip, flip-sum}
 use Rattle.bits.proofs.Packing.{bits-append, length-bits, length-bytes, bytes-bits, bits-bytes, bytes-append, bytes-are-bytes, bits-injective}
-use Rattle.bits.proofs.Sum.{length-sum}
+use Rattle.bits.proofs.Sum.{length-sum, sum-comm, sum-twice}
 use Rattle.bits.proofs.Turned.{word-turned, bits-turned-twice, turned-all-twice, Bytes-turned}
 use Rattle.bits.proofs.Word.{length-word, getD-word}
 use Rattle.machine.specs.declared.edition.Edition.{Edition}
@@ -165,6 +165,14 @@ module _ (e : Edition) where
   flipIn-twice s d b h =
       ap (λ (t : List ℕ). ordered e (flip t d)) (ordered-flip s d)
       ∙ ap (ordered e) (flip-twice (ordered e s) d (ordered-bytes e s b) (in-order s d h)) ∙ ordered-twice e s b
+
+  -- Three flips of which the first and the last are the same are the one in the middle.
+  pub flip-between : (s : List ℕ) (k d : List Bool) → Flips s k → Flips s d → flipIn e (flipIn e (flipIn e s k) d) k ≡ flipIn e s d
+  flip-between s k d hk hd =
+      flipIn-flipIn (flipIn e s k) d k (hd ∙ ap (λ (n : ℕ). 8 * n) (sym (length-flipIn s k)))
+      ∙ flipIn-flipIn s k (d ⊞ k) hk
+      ∙ ap (λ (r : List Bool). flipIn e s (k ⊞ r)) (sum-comm d k)
+      ∙ ap (flipIn e s) (sum-twice k d (le-of-eq (hk ∙ sym hd)))
 
   pub flipIn-append : (s t : List ℕ) (d f : List Bool) → Flips s d → flipIn e (s ++ t) (d ++ f) ≡ flipIn e s d ++ flipIn e t f
   unfolding flipIn

@@ -1,31 +1,39 @@
 -- Whole byte strings with their keystream added, from any starting state.
 -- Assumes nothing.
-use mathlib.Core.Path.{_≡_, ap, _∙_}
+use mathlib.Core.Path.{_≡_, sym, ap, _∙_}
 use mathlib.Core.Bool.{Bool}
 use mathlib.Core.List.{List}
 use Prim.Native.Nat.{ℕ, _*_}
 use lib.ListN.{length}
 use Rattle.bits.specs.Bytes.{Bytes}
 use Rattle.bits.specs.Strings.{_⊞_}
+use Rattle.bits.proofs.Flip.{Flips}
 use Rattle.preoutput.specs.Algebra.{single}
-use Rattle.preoutput.specs.Generator.{everySecond}
-use Rattle.preoutput.proofs.EverySecond.{length-everySecond}
+use Rattle.preoutput.specs.Generator.{Generator, every}
+use Rattle.preoutput.proofs.Spaced.{length-every}
 use Rattle.machine.specs.declared.edition.Edition.{Edition}
 use Rattle.machine.specs.Machine.{State, crypt}
 use Rattle.machine.proofs.Machine.{crypt-sum, length-crypt}
 use Rattle.startup.specs.Editions.{bitsIn, bytesIn, flipIn}
-use Rattle.startup.proofs.Order.{length-bitsIn, bitsIn-bytesIn, length-flipIn, flipIn-bytes, flipIn-twice}
+use Rattle.startup.proofs.Order.{length-bitsIn, bitsIn-bytesIn, length-flipIn, flipIn-bytes, flipIn-twice, flip-between}
 use Rattle.strings.specs.Strings.{withKeystream}
 use Rattle.strings.proofs.OverBytes.{cryptBytes}
 
-module _ (st : State) where
-  -- The keystream bits under n bytes.
-  unfoldable pub keystreamUnder : ℕ → List Bool
-  keystreamUnder n = everySecond single (8 * n) (st .generator)
+module _ (e : Edition) (p : ℕ) (g : Generator Bool) where
+  pub length-withKeystream : (s : List ℕ) → length (withKeystream e p g s) ≡ length s
+  length-withKeystream s = length-flipIn e s (every single p (8 * length s) g)
 
-  pub length-keystreamUnder : (n : ℕ) → length (keystreamUnder n) ≡ 8 * n
-  unfolding keystreamUnder
-  length-keystreamUnder n = length-everySecond (st .generator) (8 * n)
+  -- The keystream added twice gives the string back.
+  pub withKeystream-twice : (s : List ℕ) → Bytes s → withKeystream e p g (withKeystream e p g s) ≡ s
+  withKeystream-twice s h =
+      ap (λ (n : ℕ). flipIn e (withKeystream e p g s) (every single p (8 * n) g)) (length-withKeystream s)
+      ∙ flipIn-twice e s (every single p (8 * length s) g) h (length-every p (8 * length s) g)
+
+  -- With flips between, it leaves them alone.
+  pub withKeystream-between : (s : List ℕ) (d : List Bool) → Flips s d → withKeystream e p g (flipIn e (withKeystream e p g s) d) ≡ flipIn e s d
+  withKeystream-between s d h =
+      ap (λ (n : ℕ). flipIn e (flipIn e (withKeystream e p g s) d) (every single p (8 * n) g)) (length-flipIn e (withKeystream e p g s) d ∙ length-withKeystream s)
+      ∙ flip-between e s (every single p (8 * length s) g) d (length-every p (8 * length s) g) h
 
 module _ (e : Edition) (st : State) where
   -- The bits of the bytes that come out.
@@ -34,20 +42,27 @@ module _ (e : Edition) (st : State) where
   bitsIn-cryptBytes sealing s = bitsIn-bytesIn e (length s) (crypt sealing st (bitsIn e s)) (length-crypt sealing st (bitsIn e s) ∙ length-bitsIn e s)
 
   -- They are the bytes that go in, with the keystream added.
-  pub crypted-bytes : (sealing : Bool) (s : List ℕ) → bytesIn e (length s) (crypt sealing st (bitsIn e s)) ≡ withKeystream e (st .generator) s
+  pub crypted-bytes : (sealing : Bool) (s : List ℕ) → bytesIn e (length s) (crypt sealing st (bitsIn e s)) ≡ withKeystream e 2 (st .generator) s
   crypted-bytes sealing s =
-      ap (bytesIn e (length s)) (crypt-sum sealing st (bitsIn e s) ∙ ap (λ (n : ℕ). bitsIn e s ⊞ everySecond single n (st .generator)) (length-bitsIn e s))
-      ∙ flipIn-bytes e s (everySecond single (8 * length s) (st .generator))
+      ap (bytesIn e (length s)) (crypt-sum sealing st (bitsIn e s) ∙ ap (λ (n : ℕ). bitsIn e s ⊞ every single 2 n (st .generator)) (length-bitsIn e s))
+      ∙ flipIn-bytes e s (every single 2 (8 * length s) (st .generator))
 
-  -- That is, flipped by it.
-  pub cryptBytes-flip : (sealing : Bool) (s : List ℕ) → cryptBytes e sealing st s ≡ flipIn e s (keystreamUnder st (length s))
-  unfolding cryptBytes keystreamUnder
-  cryptBytes-flip sealing s = crypted-bytes sealing s
+  pub cryptBytes-added : (sealing : Bool) (s : List ℕ) → cryptBytes e sealing st s ≡ withKeystream e 2 (st .generator) s
+  unfolding cryptBytes
+  cryptBytes-added sealing s = crypted-bytes sealing s
 
   -- So that twice gives them back, whichever way each goes.
   pub cryptBytes-twice : (first second : Bool) (s : List ℕ) → Bytes s → cryptBytes e second st (cryptBytes e first st s) ≡ s
   cryptBytes-twice first second s h =
-      ap (cryptBytes e second st) (cryptBytes-flip first s)
-      ∙ cryptBytes-flip second (flipIn e s (keystreamUnder st (length s)))
-      ∙ ap (λ (n : ℕ). flipIn e (flipIn e s (keystreamUnder st (length s))) (keystreamUnder st n)) (length-flipIn e s (keystreamUnder st (length s)))
-      ∙ flipIn-twice e s (keystreamUnder st (length s)) h (length-keystreamUnder st (length s))
+      ap (cryptBytes e second st) (cryptBytes-added first s)
+      ∙ cryptBytes-added second (withKeystream e 2 (st .generator) s)
+      ∙ withKeystream-twice e 2 (st .generator) s h
+
+-- A string that is enciphered, flipped and deciphered, from two states with one generator, is flipped.
+pub cryptBytes-between : (e : Edition) (st st′ : State) (first second : Bool) (s : List ℕ) (d : List Bool) → st .generator ≡ st′ .generator → Flips s d
+    → cryptBytes e second st′ (flipIn e (cryptBytes e first st s) d) ≡ flipIn e s d
+cryptBytes-between e st st′ first second s d same h =
+    ap (λ (t : List ℕ). cryptBytes e second st′ (flipIn e t d)) (cryptBytes-added e st first s)
+    ∙ cryptBytes-added e st′ second (flipIn e (withKeystream e 2 (st .generator) s) d)
+    ∙ ap (λ (g : Generator Bool). withKeystream e 2 g (flipIn e (withKeystream e 2 (st .generator) s) d)) (sym same)
+    ∙ withKeystream-between e 2 (st .generator) s d h

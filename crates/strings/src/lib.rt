@@ -6,6 +6,7 @@ ghost use Prim.Native.Nat.{_+_, _*_, _/_, _≤_};
 ghost use lib.ListN.{length, take, drop};
 ghost use Rattle.bits.specs.Bytes.{word};
 ghost use Rattle.preoutput.specs.Words.{generatorOf};
+ghost use Rattle.strokes.specs.Streams.{spacing};
 ghost use Rattle.machine.specs.Machine.{run, decipher};
 ghost use Rattle.machine.specs.Engine.{stateOf};
 ghost use Rattle.startup.specs.Editions.{bitsIn};
@@ -16,6 +17,7 @@ use machine::engine::Engine;
 use preoutput::Registers;
 use startup::editions;
 use strokes::streams;
+use strokes::streams::Taken;
 
 // Four bytes as a word.
 fn word_at(edition: Edition, s: &[u8], at: usize) -> u64
@@ -132,16 +134,16 @@ pub fn encipher_all(e: Engine, s: &[u8], out: &mut [u8]) -> Engine
 }
 
 // The whole words of a string with the keystream added, to the front of an output that has room for the string.
-fn add_words(edition: Edition, g: Registers, s: &[u8], out: &mut [u8]) -> Registers
+fn add_words(edition: Edition, taken: Taken, g: Registers, s: &[u8], out: &mut [u8]) -> Registers
     requires { ⌜ length (now s) ≤ length (now out) ⌝ }
-    ensures { λ r. ⌜ Adds edition (generatorOf g) (take (length (now (s .entry)) / 4 * 4) (now (s .entry))) (now (out .entry)) (now (out .exit)) r ⌝ }
+    ensures { λ r. ⌜ Adds edition (spacing taken) (generatorOf g) (take (length (now (s .entry)) / 4 * 4) (now (s .entry))) (now (out .entry)) (now (out .exit)) r ⌝ }
 {
     let n = s.len() / 4;
     let mut now = g;
     let mut i = 0;
     while i < n {
         let at = i * 4;
-        let k = streams::keystream_word(now);
+        let k = streams::keystream_word(now, taken);
         put(
             edition,
             out,
@@ -157,14 +159,14 @@ fn add_words(edition: Edition, g: Registers, s: &[u8], out: &mut [u8]) -> Regist
 }
 
 // A string with the keystream added byte by byte, to the front of an output that has room for it.
-fn add_bytes(edition: Edition, g: Registers, s: &[u8], out: &mut [u8]) -> Registers
+fn add_bytes(edition: Edition, taken: Taken, g: Registers, s: &[u8], out: &mut [u8]) -> Registers
     requires { ⌜ length (now s) ≤ length (now out) ⌝ }
-    ensures { λ r. ⌜ Adds edition (generatorOf g) (now (s .entry)) (now (out .entry)) (now (out .exit)) r ⌝ }
+    ensures { λ r. ⌜ Adds edition (spacing taken) (generatorOf g) (now (s .entry)) (now (out .entry)) (now (out .exit)) r ⌝ }
 {
     let mut now = g;
     let mut i = 0;
     while i < s.len() {
-        let k = streams::stream_byte(now);
+        let k = streams::keystream_byte(now, taken);
         let x = editions::ordered_byte(edition, s[i]);
         put(edition, out, i, 1, bits::wide(x) ^ k.keystream, true);
         now = k.registers;
@@ -174,26 +176,24 @@ fn add_bytes(edition: Edition, g: Registers, s: &[u8], out: &mut [u8]) -> Regist
 }
 
 // The same, whole words first.
-fn add_fitting(edition: Edition, g: Registers, s: &[u8], out: &mut [u8])
+fn add_fitting(edition: Edition, taken: Taken, g: Registers, s: &[u8], out: &mut [u8])
     requires { ⌜ length (now s) ≤ length (now out) ⌝ }
-    ensures { λ r. ⌜ now (out .exit) ≡ withKeystream edition (generatorOf g) (now (s .entry)) ++ drop (length (now (s .entry))) (now (out .entry)) ⌝ }
+    ensures { λ r. ⌜ now (out .exit) ≡ withKeystream edition (spacing taken) (generatorOf g) (now (s .entry)) ++ drop (length (now (s .entry))) (now (out .entry)) ⌝ }
 {
     let added = s.len() / 4 * 4;
-    let words = add_words(edition, g, s, out);
-    add_bytes(edition, words, &s[added..], &mut out[added..]);
+    let words = add_words(edition, taken, g, s, out);
+    add_bytes(edition, taken, words, &s[added..], &mut out[added..]);
 }
 
-// A string with the keystream added that the machine would give, to the front of the output: only the bytes that it has room for are taken.
-// Nothing is handed to an authenticator.
-pub fn add_keystream(e: Engine, s: &[u8], out: &mut [u8])
-    ensures { λ r. ⌜ now (out .exit) ≡ withKeystream (e .edition) (generatorOf (e .registers)) (take (length (now (out .entry))) (now (s .entry))) ++ drop (length (take (length (now (out .entry))) (now (s .entry)))) (now (out .entry)) ⌝ }
+// A string with a generator's keystream added, to the front of the output: only the bytes that it has room for are taken. Nothing is handed
+// to an authenticator.
+pub fn add_keystream(edition: Edition, taken: Taken, g: Registers, s: &[u8], out: &mut [u8])
+    ensures { λ r. ⌜ now (out .exit) ≡ withKeystream edition (spacing taken) (generatorOf g) (take (length (now (out .entry))) (now (s .entry))) ++ drop (length (take (length (now (out .entry))) (now (s .entry)))) (now (out .entry)) ⌝ }
 {
-    let edition = e.edition;
-    let registers = e.registers;
     let room = out.len();
     if s.len() <= room {
-        add_fitting(edition, registers, s, out);
+        add_fitting(edition, taken, g, s, out);
     } else {
-        add_fitting(edition, registers, &s[..room], out);
+        add_fitting(edition, taken, g, &s[..room], out);
     }
 }

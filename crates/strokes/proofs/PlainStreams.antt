@@ -4,7 +4,7 @@ use mathlib.Core.Path.{_≡_, refl, sym, ap, ap₂, _∙_}
 use mathlib.Core.Bool.{Bool, false}
 use mathlib.Core.List.{List, [], _∷_, _++_, foldl, append-assoc}
 use Prim.Native.Nat.{ℕ, zero, suc, _+_, _-_, _*_, _/_, _%_, _^_, _<_, _≤_}
-use native.Mathlib.Nat.{mod-lt, mod-mod, zero-mul, zero-add, suc-add}
+use native.Mathlib.Nat.{mod-lt, mod-mod, zero-mul, zero-add, one-mul}
 use native.Mathlib.Omega.{arith}
 use lib.ListN.{length, take, drop, length-replicate, replicate-append-replicate}
 use lib.Pow.{shr-lt, pow-pos}
@@ -22,56 +22,43 @@ use Rattle.preoutput.specs.declared.Registers.{Registers}
 use Rattle.preoutput.specs.declared.Run.{Run}
 use Rattle.strokes.specs.declared.streams.Streamed.{Streamed}
 use Rattle.preoutput.specs.Algebra.{single}
-use Rattle.preoutput.specs.Generator.{Generator, preoutput, plain, everySecond}
+use Rattle.preoutput.specs.Generator.{Generator, preoutput, plain, every}
 use Rattle.preoutput.specs.Words.{generatorOf}
 use Rattle.preoutput.specs.Running.{Running, next, clocks, given}
 use Rattle.strokes.specs.Strokes.{listed, outputAt, stroked, strokedRun}
-use Rattle.strokes.specs.Streams.{Parted, Streams}
+use Rattle.strokes.specs.Streams.{Parted, Keystreams, Streams}
 use Rattle.preoutput.proofs.Runs.{ways}
+use Rattle.preoutput.proofs.Spaced.{length-every, every-append}
 use Rattle.strokes.proofs.ClocksStroked.{clocks-stroked, stroked-agrees}
 use Rattle.bits.proofs.Slides.{word-take, places-zeros, top-places}
 use Rattle.strokes.proofs.StrokeWords.{words-sized}
 use Rattle.strokes.proofs.Listed.{length-listed, take-listed}
 
--- Every pre-output of n plain clocks.
-unfoldable pub preoutputs : ℕ → Generator Bool → List Bool
-preoutputs zero g = []
-preoutputs (suc n) g = preoutput single g ∷ preoutputs n (plain single g)
-
-length-preoutputs : (n : ℕ) (g : Generator Bool) → length (preoutputs n g) ≡ n
-unfolding preoutputs
-length-preoutputs zero g = refl
-length-preoutputs (suc n) g = ap suc (length-preoutputs n (plain single g))
-
 two-more : (n : ℕ) → 2 * suc n ≡ suc (suc (2 * n))
 two-more n = omega arith
 
-evens-preoutputs : (n : ℕ) (g : Generator Bool) → evens (preoutputs (2 * n) g) ≡ everySecond single n g
-unfolding preoutputs evens everySecond
-evens-preoutputs zero g = refl
-evens-preoutputs (suc n) g = ap (λ (k : ℕ). evens (preoutputs k g)) (two-more n) ∙ ap (λ (s : List Bool). preoutput single g ∷ s) (evens-preoutputs n (plain single (plain single g)))
+-- Of all pre-outputs, every second from the first on and from the second on.
+evens-every : (n : ℕ) (g : Generator Bool) → evens (every single 1 (2 * n) g) ≡ every single 2 n g
+unfolding evens every times
+evens-every zero g = refl
+evens-every (suc n) g = ap (λ (k : ℕ). evens (every single 1 k g)) (two-more n) ∙ ap (λ (s : List Bool). preoutput single g ∷ s) (evens-every n (plain single (plain single g)))
 
 -- With one clock more.
-evens-more : (n : ℕ) (g : Generator Bool) → evens (preoutputs (suc (2 * n)) g) ≡ everySecond single (suc n) g
-unfolding preoutputs evens everySecond
+evens-more : (n : ℕ) (g : Generator Bool) → evens (every single 1 (suc (2 * n)) g) ≡ every single 2 (suc n) g
+unfolding evens every times
 evens-more zero g = refl
-evens-more (suc n) g = ap (λ (k : ℕ). evens (preoutputs (suc k) g)) (two-more n) ∙ ap (λ (s : List Bool). preoutput single g ∷ s) (evens-more n (plain single (plain single g)))
+evens-more (suc n) g = ap (λ (k : ℕ). evens (every single 1 (suc k) g)) (two-more n) ∙ ap (λ (s : List Bool). preoutput single g ∷ s) (evens-more n (plain single (plain single g)))
 
-odds-preoutputs : (n : ℕ) (g : Generator Bool) → odds (preoutputs (2 * n) g) ≡ everySecond single n (plain single g)
-unfolding preoutputs evens everySecond
-odds-preoutputs zero g = refl
-odds-preoutputs (suc n) g = ap (λ (k : ℕ). odds (preoutputs k g)) (two-more n) ∙ evens-more n (plain single g)
+odds-every : (n : ℕ) (g : Generator Bool) → odds (every single 1 (2 * n) g) ≡ every single 2 n (plain single g)
+unfolding evens every times
+odds-every zero g = refl
+odds-every (suc n) g = ap (λ (k : ℕ). odds (every single 1 k g)) (two-more n) ∙ evens-more n (plain single g)
 
-preoutputs-append : (m n : ℕ) (g : Generator Bool) → preoutputs (m + n) g ≡ preoutputs m g ++ preoutputs n (times m (plain single) g)
-unfolding preoutputs times
-preoutputs-append zero n g = ap (λ (k : ℕ). preoutputs k g) (zero-add n)
-preoutputs-append (suc m) n g = ap (λ (k : ℕ). preoutputs k g) (suc-add m n) ∙ ap (λ (s : List Bool). preoutput single g ∷ s) (preoutputs-append m n (plain single g))
-
--- They are what plain clocks shift out.
-clocks-preoutputs : (n : ℕ) (r : Running) → clocks n (given []) (given []) r .outputs ≡ foldl shift (r .outputs) (preoutputs n (r .generator))
-unfolding clocks next preoutputs
-clocks-preoutputs zero r = refl
-clocks-preoutputs (suc n) r = clocks-preoutputs n (next (λ y. false) (λ y. false) r)
+-- All pre-outputs are what plain clocks shift out.
+clocks-every : (n : ℕ) (r : Running) → clocks n (given []) (given []) r .outputs ≡ foldl shift (r .outputs) (every single 1 n (r .generator))
+unfolding clocks next every times
+clocks-every zero r = refl
+clocks-every (suc n) r = clocks-every n (next (λ y. false) (λ y. false) r)
 
 -- A stroke of n plain clocks, with n places for the pre-outputs.
 module _ (n : ℕ) (g : Registers) (h : n ≤ 32) where
@@ -91,12 +78,12 @@ module _ (n : ℕ) (g : Registers) (h : n ≤ 32) where
       none : (i : ℕ) → places (word 32 0) i ≡ false
       none i = ap (λ (s : List Bool). places s i) (word-zero 32) ∙ places-zeros [] 32 i
 
-  pub listed-preoutputs : listed n (outputAt (generatorOf g)) ≡ preoutputs n (generatorOf g)
+  pub listed-every : listed n (outputAt (generatorOf g)) ≡ every single 1 n (generatorOf g)
   unfolding strokedRun begun
-  listed-preoutputs =
+  listed-every =
       sym (shifted-in 0 (zeros n) (listed n (outputAt (generatorOf g))) (omega (arith, length-replicate n false, length-listed n (outputAt (generatorOf g)))))
-      ∙ ap (λ (r : Running). r .outputs) stroke-plain ∙ clocks-preoutputs n begun
-      ∙ shifted-in 0 (zeros n) (preoutputs n (generatorOf g)) (omega (arith, length-replicate n false, length-preoutputs n (generatorOf g)))
+      ∙ ap (λ (r : Running). r .outputs) stroke-plain ∙ clocks-every n begun
+      ∙ shifted-in 0 (zeros n) (every single 1 n (generatorOf g)) (omega (arith, length-replicate n false, length-every 1 n (generatorOf g)))
 
 -- The two halves of a word as words.
 pub halves : (r : Run) (both : ℕ) → both < 2 ^ 64 → word 64 both ≡ evens (word 64 (r .outputs)) ++ odds (word 64 (r .outputs))
@@ -116,23 +103,19 @@ halves r both small e = (
     above x h = ap (word 64) (sym (ap (λ (z : ℕ). z + x) (zero-mul (2 ^ 32)) ∙ zero-add x)) ∙ word-append 32 32 0 x h ∙ ap (λ (s : List Bool). s ++ word 32 x) (word-zero 32)
 
 -- The streams of n string bits, 32 at most, from a run that began with no pre-outputs.
-pub record Ran (n : ℕ) (g : Generator Bool) (r : Run) : Type 0 where
-  pub registers : generatorOf (r .registers) ≡ times n (plain single) g
-  pub outputs : word 64 (r .outputs) ≡ zeros (64 - n) ++ preoutputs n g
-
-pub streams : (n : ℕ) (g : Generator Bool) (r : Run) (s : Streamed) → n ≤ 32 → Ran (2 * n) g r → Parted r s → Streams n g s
+pub streams : (n : ℕ) (g : Generator Bool) (r : Run) (s : Streamed) → n ≤ 32 → Keystreams 1 (2 * n) g (r .registers) (r .outputs) → Parted r s → Streams n g s
 streams n g r s h ran parted = record {
   keystreams = record {
-    generator = ap generatorOf (parted .registers) ∙ ran .registers;
-    keystream = parted .keystream ∙ ap (λ (t : List Bool). zeros 32 ++ t) (ap evens outputs ∙ evens-zeros (32 - n) (preoutputs (2 * n) g) ∙ ap (λ (t : List Bool). zeros (32 - n) ++ t) (evens-preoutputs n g)) ∙ together (everySecond single n g);
+    generator = ap generatorOf (parted .registers) ∙ ran .generator ∙ ap (λ (k : ℕ). times k (plain single) g) (one-mul (2 * n));
+    keystream = parted .keystream ∙ ap (λ (t : List Bool). zeros 32 ++ t) (ap evens outputs ∙ evens-zeros (32 - n) (every single 1 (2 * n) g) ∙ ap (λ (t : List Bool). zeros (32 - n) ++ t) (evens-every n g)) ∙ together (every single 2 n g);
   };
-  authentication = parted .authentication ∙ ap (λ (t : List Bool). zeros 32 ++ t) (ap odds outputs ∙ odds-zeros (32 - n) (preoutputs (2 * n) g) ∙ ap (λ (t : List Bool). zeros (32 - n) ++ t) (odds-preoutputs n g)) ∙ together (everySecond single n (plain single g));
+  authentication = parted .authentication ∙ ap (λ (t : List Bool). zeros 32 ++ t) (ap odds outputs ∙ odds-zeros (32 - n) (every single 1 (2 * n) g) ∙ ap (λ (t : List Bool). zeros (32 - n) ++ t) (odds-every n g)) ∙ together (every single 2 n (plain single g));
 }
   where
-    outputs : word 64 (r .outputs) ≡ zeros (2 * (32 - n)) ++ preoutputs (2 * n) g
+    outputs : word 64 (r .outputs) ≡ zeros (2 * (32 - n)) ++ every single 1 (2 * n) g
     outputs =
         let twice : 64 - 2 * n ≡ 2 * (32 - n) = omega arith in
-        ran .outputs ∙ ap (λ (k : ℕ). zeros k ++ preoutputs (2 * n) g) twice
+        ran .keystream ∙ ap (λ (k : ℕ). zeros k ++ every single 1 (2 * n) g) twice
 
     together : (t : List Bool) → zeros 32 ++ (zeros (32 - n) ++ t) ≡ zeros (64 - n) ++ t
     together t =
@@ -140,26 +123,26 @@ streams n g r s h ran parted = record {
         sym (append-assoc (zeros 32) (zeros (32 - n)) t) ∙ ap (λ (z : List Bool). z ++ t) (replicate-append-replicate 32 (32 - n) false ∙ ap zeros all)
 
 -- One stroke of n clocks, and two of 32.
-pub one-stroke : (n : ℕ) (g : Registers) (r : Run) (y : ℕ) → n ≤ 32 → generatorOf (r .registers) ≡ stroked n (places (word 32 0)) (places (word 32 0)) (generatorOf g)
-    → word 32 y ≡ listed 32 (outputAt (generatorOf g)) → word 64 (r .outputs) ≡ drop n (word 64 0) ++ take n (word 64 (y * 2 ^ 32 % 2 ^ 64)) → Ran n (generatorOf g) r
-one-stroke n g r y h eg ey eo = record {
-  registers = eg ∙ plain-stroked n g h;
-  outputs =
+pub one-stroke : (n : ℕ) (g : Registers) (y : ℕ) {after : Registers} {o : ℕ} → n ≤ 32 → generatorOf after ≡ stroked n (places (word 32 0)) (places (word 32 0)) (generatorOf g)
+    → word 32 y ≡ listed 32 (outputAt (generatorOf g)) → word 64 o ≡ drop n (word 64 0) ++ take n (word 64 (y * 2 ^ 32 % 2 ^ 64)) → Keystreams 1 n (generatorOf g) after o
+one-stroke n g y h eg ey eo = record {
+  generator = eg ∙ plain-stroked n g h ∙ ap (λ (k : ℕ). times k (plain single) (generatorOf g)) (sym (one-mul n));
+  keystream =
       eo ∙ ap₂ _++_ (ap (drop n) (word-zero 64) ∙ drop-zeros n 64)
-      (top-places n y h ∙ ap (take n) ey ∙ take-listed n 32 _ h ∙ listed-preoutputs n g h);
+      (top-places n y h ∙ ap (take n) ey ∙ take-listed n 32 _ h ∙ listed-every n g h);
 }
 
-pub two-strokes : (g half : Registers) (r : Run) (y z : ℕ) → generatorOf half ≡ stroked 32 (places (word 32 0)) (places (word 32 0)) (generatorOf g)
-    → generatorOf (r .registers) ≡ stroked 32 (places (word 32 0)) (places (word 32 0)) (generatorOf half)
+pub two-strokes : (g half : Registers) (y z : ℕ) {after : Registers} {o : ℕ} → generatorOf half ≡ stroked 32 (places (word 32 0)) (places (word 32 0)) (generatorOf g)
+    → generatorOf after ≡ stroked 32 (places (word 32 0)) (places (word 32 0)) (generatorOf half)
     → word 32 y ≡ listed 32 (outputAt (generatorOf g)) → word 32 z ≡ listed 32 (outputAt (generatorOf half))
-    → word 64 (r .outputs) ≡ drop 32 (word 64 y) ++ take 32 (word 64 (z * 2 ^ 32 % 2 ^ 64)) → Ran 64 (generatorOf g) r
-two-strokes g half r y z eh er ey ez eo = record {
-  registers = er ∙ plain-stroked 32 half (omega arith) ∙ ap (times 32 (plain single)) first ∙ times-add (plain single) 32 32 (generatorOf g);
-  outputs =
+    → word 64 o ≡ drop 32 (word 64 y) ++ take 32 (word 64 (z * 2 ^ 32 % 2 ^ 64)) → Keystreams 1 64 (generatorOf g) after o
+two-strokes g half y z eh er ey ez eo = record {
+  generator = er ∙ plain-stroked 32 half (omega arith) ∙ ap (times 32 (plain single)) first ∙ times-add (plain single) 32 32 (generatorOf g);
+  keystream =
       eo
-      ∙ ap₂ _++_ (word-drop 32 32 y ∙ ey ∙ listed-preoutputs 32 g (omega arith))
-      (top-places 32 z (omega arith) ∙ take-all 32 (word 32 z) (omega (arith, length-word 32 z)) ∙ ez ∙ listed-preoutputs 32 half (omega arith) ∙ ap (preoutputs 32) first)
-      ∙ sym (preoutputs-append 32 32 (generatorOf g));
+      ∙ ap₂ _++_ (word-drop 32 32 y ∙ ey ∙ listed-every 32 g (omega arith))
+      (top-places 32 z (omega arith) ∙ take-all 32 (word 32 z) (omega (arith, length-word 32 z)) ∙ ez ∙ listed-every 32 half (omega arith) ∙ ap (every single 1 32) first)
+      ∙ sym (every-append 1 32 32 (generatorOf g));
 }
   where
     first : generatorOf half ≡ times 32 (plain single) (generatorOf g)

@@ -1,9 +1,15 @@
-// The pre-outputs of plain running, which are keystream and authentication bits by turns.
+// The pre-outputs of plain running, which are all keystream bits, or keystream and authentication bits by turns.
 ghost use Rattle.preoutput.specs.Words.{generatorOf};
-ghost use Rattle.strokes.specs.Streams.{Parted, Keystreams, Streams};
+ghost use Rattle.strokes.specs.Streams.{Parted, Keystreams, Streams, spacing};
 use crate::stroke;
 use preoutput::Registers;
 use preoutput::Run;
+
+// Which pre-outputs are keystream bits.
+pub enum Taken {
+    Every,
+    EverySecond,
+}
 
 // The registers after some string bits, with the keystream and the authentication bits of their clocks.
 pub struct Streamed {
@@ -51,18 +57,54 @@ pub fn stream_word(g: Registers) -> Streamed
     })
 }
 
-// The same, with the keystream alone. It is written out, since what has one caller is compiled into that caller's loop.
-pub fn keystream_word(g: Registers) -> Keystreamed
-    ensures { λ r. ⌜ Keystreams 32 (generatorOf g) (r .registers) (r .keystream) ⌝ }
+// The clocks of 32 keystream bits where every pre-output is one.
+pub fn preoutput_word(g: Registers) -> Keystreamed
+    ensures { λ r. ⌜ Keystreams 1 32 (generatorOf g) (r .registers) (r .keystream) ⌝ }
 {
-    let half = stroke::plain_stroke(g);
-    let s = parted(Run {
-        registers: stroke::plain_stroke(half),
-        outputs: bits::slide(stroke::outputs(g), stroke::outputs(half) << 32, 32),
-    });
-    let registers = s.registers;
     Keystreamed {
-        registers,
-        keystream: s.keystream,
+        registers: stroke::plain_stroke(g),
+        keystream: bits::slide(0, stroke::outputs(g) << 32, 32),
+    }
+}
+
+// The clocks of eight keystream bits.
+pub fn keystream_byte(g: Registers, taken: Taken) -> Keystreamed
+    ensures { λ r. ⌜ Keystreams (spacing taken) 8 (generatorOf g) (r .registers) (r .keystream) ⌝ }
+{
+    match taken {
+        Taken::Every => Keystreamed {
+            registers: stroke::stroke(g, 8, 0, 0),
+            keystream: bits::slide(0, stroke::outputs(g) << 32, 8),
+        },
+        Taken::EverySecond => {
+            let s = stream_byte(g);
+            let registers = s.registers;
+            Keystreamed {
+                registers,
+                keystream: s.keystream,
+            }
+        }
+    }
+}
+
+// The clocks of 32 keystream bits. Those of every second pre-output are written out, since what has one caller is compiled into that
+// caller's loop.
+pub fn keystream_word(g: Registers, taken: Taken) -> Keystreamed
+    ensures { λ r. ⌜ Keystreams (spacing taken) 32 (generatorOf g) (r .registers) (r .keystream) ⌝ }
+{
+    match taken {
+        Taken::Every => preoutput_word(g),
+        Taken::EverySecond => {
+            let half = stroke::plain_stroke(g);
+            let s = parted(Run {
+                registers: stroke::plain_stroke(half),
+                outputs: bits::slide(stroke::outputs(g), stroke::outputs(half) << 32, 32),
+            });
+            let registers = s.registers;
+            Keystreamed {
+                registers,
+                keystream: s.keystream,
+            }
+        }
     }
 }

@@ -9,6 +9,7 @@ use lib.ListN.{length, take, drop}
 use lib.Seq.{take-all}
 use Rattle.bits.specs.Bytes.{word}
 use Rattle.preoutput.specs.Words.{generatorOf}
+use Rattle.strokes.specs.Streams.{spacing}
 use Rattle.machine.proofs.Bitwise.{bits-keystream}
 use Rattle.startup.specs.Editions.{bitsIn}
 use Rattle.strings.specs.Strings.{Adds}
@@ -18,16 +19,16 @@ use Rattle.strings.proofs.add_bytes.Statement.{statement}
 use Rattle.strings.proofs.add_bytes.Tie as tie
 
 abbrev Inv-loop : tie.InvT-loop
-Inv-loop edition s out₀ now₀ i₀ out now i = (i ≤ length s) × (length out ≡ length out₀) × Adds edition (generatorOf now₀) (take i s) out₀ out now
+Inv-loop edition taken s out₀ now₀ i₀ out now i = (i ≤ length s) × (length out ≡ length out₀) × Adds edition (spacing taken) (generatorOf now₀) (take i s) out₀ out now
 
 abbrev μ-loop : tie.MeasureT-loop
-μ-loop edition s out₀ now₀ i₀ out now i = length s - i
+μ-loop edition taken s out₀ now₀ i₀ out now i = length s - i
 
 loop-holds : tie.Need-loop-holds Inv-loop μ-loop
-loop-holds c = (omega arith, refl, adds-none _ _ _)
+loop-holds c = (omega arith, refl, adds-none _ _ _ _)
 
-stream-byte-requires : tie.Need-stream-byte-requires Inv-loop μ-loop
-stream-byte-requires c κs = search needs
+keystream-byte-requires : tie.Need-keystream-byte-requires Inv-loop μ-loop
+keystream-byte-requires c κs = search needs
 
 shared-slice-read-ordered-byte : tie.Need-shared-slice-read-ordered-byte Inv-loop μ-loop
 shared-slice-read-ordered-byte c = omega arith
@@ -53,13 +54,13 @@ loop-again c =
     let w = p .before .before in
     let o = w .before .before in
     let b = o .before .before in
-    let k = b .stream-byte in
+    let k = b .keystream-byte in
     let l = b .before .before .loop in
     let a = b .before .before .before .before .before .args in
     let s = a .s .now in
     let i = l .i in
     let byte = ap (word 8) (w .wide .ensures) ∙ o .ordered-byte .ensures ∙ ap (bitsIn (a .edition)) (byte-piece s i (b .before .loop-test .taken)) in
-    let piece = adds-piece (a .edition) s i 1 (w .wide .result) (omega arith) byte (drop i (l .out)) (k .result .keystream) (bits-keystream 8 (omega arith) (k .ensures .keystreams)) (k .ensures .keystreams .generator) in (
+    let piece = adds-piece (a .edition) s i 1 (w .wide .result) (omega arith) byte (drop i (l .out)) (k .result .keystream) (bits-keystream 8 (omega arith) (k .ensures)) (k .ensures .generator) in (
       omega arith,
       omega (arith, p .put .kept),
       adds-pieces (a .edition) (more s i 1 (l .inv .0)) (l .inv .2) piece (p .put .ensures),
@@ -80,7 +81,7 @@ add-bytes-spec =
     Inv-loop
     μ-loop
     loop-holds
-    stream-byte-requires
+    keystream-byte-requires
     shared-slice-read-ordered-byte
     ordered-byte-requires
     wide-requires

@@ -44,7 +44,7 @@ returns : tie.Need-returns
 returns c =
     let w = c .before .before .before .before .before .before .before in
     let s = w .before .before .before .before .args .s .now in
-    let mid = w .add-words .last .1 .1 .1 .0 in
+    let mid = w .add-words .last .1 .1 .1 .1 .0 in
     adds-pieces (w .before .before .before .before .args .edition) (words-and-bytes s) (w .add-words .ensures) (rw (part-to-end s _, part-to-end mid _) at (c .before .before .add-bytes .ensures)) (rest-written mid (length s / 4 * 4) _) .written
 
 pub add-fitting-spec : {M : Type 1} → statement M

@@ -12,10 +12,10 @@ add-fitting-requires : tie.Need-add-fitting-requires
 add-fitting-requires c κs = search needs
 
 slice-aggregate-add-fitting : tie.Need-slice-aggregate-add-fitting
-slice-aggregate-add-fitting c = sym (length-take-le _ (c .before .before .before .before .before .args .s .now) (omega arith))
+slice-aggregate-add-fitting c = sym (length-take-le _ (c .before .before .before .before .args .s .now) (omega arith))
 
 add-fitting-requires-2 : tie.Need-add-fitting-requires-2
-add-fitting-requires-2 c κs = omega (arith, length-take (length (c .before .before .before .before .before .before .args .out .now)) (c .before .before .before .before .before .before .args .s .now))
+add-fitting-requires-2 c κs = omega (arith, length-take (length (c .before .before .before .before .before .args .out .now)) (c .before .before .before .before .before .args .s .now))
 
 same-length : tie.Need-same-length
 same-length c = search needs

@@ -7,6 +7,7 @@ use borrow.Author.Needs.{needs}
 use lib.Dec.{lit≤}
 use lib.ListN.{length, take, drop}
 use Rattle.preoutput.specs.Words.{generatorOf}
+use Rattle.strokes.specs.Streams.{spacing}
 use Rattle.strings.specs.Strings.{Adds}
 use Rattle.machine.proofs.Bitwise.{bits-keystream}
 use Rattle.strings.proofs.OverBytes.{more-word}
@@ -15,13 +16,13 @@ use Rattle.strings.proofs.add_words.Statement.{statement}
 use Rattle.strings.proofs.add_words.Tie as tie
 
 abbrev Inv-loop : tie.InvT-loop
-Inv-loop edition s out₀ n now₀ i₀ out now i = (i ≤ n) × (length out ≡ length out₀) × Adds edition (generatorOf now₀) (take (i * 4) s) out₀ out now
+Inv-loop edition taken s out₀ n now₀ i₀ out now i = (i ≤ n) × (length out ≡ length out₀) × Adds edition (spacing taken) (generatorOf now₀) (take (i * 4) s) out₀ out now
 
 abbrev μ-loop : tie.MeasureT-loop
-μ-loop edition s out₀ n now₀ i₀ out now i = n - i
+μ-loop edition taken s out₀ n now₀ i₀ out now i = n - i
 
 loop-holds : tie.Need-loop-holds Inv-loop μ-loop
-loop-holds c = (omega arith, refl, adds-none _ _ _)
+loop-holds c = (omega arith, refl, adds-none _ _ _ _)
 
 mul-at : tie.Need-mul-at Inv-loop μ-loop
 mul-at c = omega arith

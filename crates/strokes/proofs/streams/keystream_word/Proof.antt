@@ -7,6 +7,15 @@ use borrow.Author.Needs.{needs}
 use Rattle.strokes.proofs.streams.keystream_word.Statement.{statement}
 use Rattle.strokes.proofs.streams.keystream_word.Tie as tie
 
+enum-told : tie.Need-enum-told
+enum-told c = search needs
+
+preoutput-word-requires : tie.Need-preoutput-word-requires
+preoutput-word-requires c κs = search needs
+
+enum-told-2 : tie.Need-enum-told-2
+enum-told-2 c = search needs
+
 plain-stroke-requires : tie.Need-plain-stroke-requires
 plain-stroke-requires c κs = search needs
 
@@ -26,26 +35,35 @@ parted-requires : tie.Need-parted-requires
 parted-requires c κs = search needs
 
 returns : tie.Need-returns
-returns c =
+returns c = rw (c .before .enum-told .given .1) (c .preoutput-word .ensures)
+
+returns-2 : tie.Need-returns-2
+returns-2 c =
     let p = c .before in
     let s = p .before in
     let z = s .before in
     let y = z .before in
     let k = y .before in
     let h = k .before in
-    let g = h .before .args .g in
-    streams 32 (generatorOf g) _ (p .parted .result) (omega arith)
-    (two-strokes g (h .plain-stroke .result) _ (y .outputs .result) (z .outputs2 .result) (h .plain-stroke .ensures) (k .plain-stroke2 .ensures) (y .outputs .ensures) (z .outputs2 .ensures) (s .slide .ensures))
-    (p .parted .ensures) .keystreams
+    let t = h .before in
+    let g = t .before .before .args .g in
+    rw (t .enum-told2 .given .1)
+    (streams 32 (generatorOf g) _ (p .parted .result) (omega arith)
+    (two-strokes g (h .plain-stroke .result) (y .outputs .result) (z .outputs2 .result) (h .plain-stroke .ensures) (k .plain-stroke2 .ensures) (y .outputs .ensures) (z .outputs2 .ensures) (s .slide .ensures))
+    (p .parted .ensures) .keystreams)
 
 pub keystream-word-spec : {M : Type 1} → statement M
 keystream-word-spec =
     tie.close
     (tie.spec
+    enum-told
+    preoutput-word-requires
+    enum-told-2
     plain-stroke-requires
     plain-stroke-requires-2
     outputs-requires
     outputs-requires-2
     slide-requires
     parted-requires
-    returns)
+    returns
+    returns-2)

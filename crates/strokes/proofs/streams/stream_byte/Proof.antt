@@ -24,7 +24,7 @@ returns c =
     let s = c .before in
     let y = s .before in
     let g = y .before .before .args .g in
-    streams 8 (generatorOf g) _ (c .parted .result) (omega arith) (one-stroke 16 g _ (y .outputs .result) (omega arith) (y .before .stroke .ensures) (y .outputs .ensures) (s .slide .ensures)) (c .parted .ensures)
+    streams 8 (generatorOf g) _ (c .parted .result) (omega arith) (one-stroke 16 g (y .outputs .result) (omega arith) (y .before .stroke .ensures) (y .outputs .ensures) (s .slide .ensures)) (c .parted .ensures)
 
 pub stream-byte-spec : {M : Type 1} → statement M
 stream-byte-spec =

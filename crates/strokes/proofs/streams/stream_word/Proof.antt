@@ -34,7 +34,7 @@ returns c =
     let h = k .before in
     let g = h .before .args .g in
     streams 32 (generatorOf g) _ (c .parted .result) (omega arith)
-    (two-strokes g (h .plain-stroke .result) _ (y .outputs .result) (z .outputs2 .result) (h .plain-stroke .ensures) (k .plain-stroke2 .ensures) (y .outputs .ensures) (z .outputs2 .ensures) (s .slide .ensures))
+    (two-strokes g (h .plain-stroke .result) (y .outputs .result) (z .outputs2 .result) (h .plain-stroke .ensures) (k .plain-stroke2 .ensures) (y .outputs .ensures) (z .outputs2 .ensures) (s .slide .ensures))
     (c .parted .ensures)
 
 pub stream-word-spec : {M : Type 1} → statement M
