@@ -119,3 +119,10 @@ sum-both s t u h = sum-assoc s t (s ⊞ u) ∙ ap (λ (r : List Bool). s ⊞ r) 
 -- What is added to one string on both sides of an equation may be left out.
 pub sum-cancel : (s t u : List Bool) → length s ≤ length t → length s ≤ length u → s ⊞ t ≡ s ⊞ u → t ≡ u
 sum-cancel s t u h k e = sym (sum-twice s t h) ∙ ap (λ (r : List Bool). s ⊞ r) e ∙ sum-twice s u k
+
+-- Of two strings with a known sum, the first with flips added is the second exactly when the sum is the flips.
+pub sum-agrees : (s t u f : List Bool) → length s ≡ length t → length s ≡ length f → s ⊞ t ≡ u → (s ⊞ f ≡ t) ↔ (u ≡ f)
+sum-agrees s t u f lt lf sum = (
+  λ e. sym sum ∙ ap (λ (r : List Bool). s ⊞ r) (sym e) ∙ sum-twice s f (le-of-eq lf),
+  λ e. ap (λ (r : List Bool). s ⊞ r) (sym e ∙ sym sum) ∙ sum-twice s t (le-of-eq lt),
+)

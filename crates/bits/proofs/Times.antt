@@ -19,6 +19,12 @@ module _ {A : Type 0} (f : A → A) where
   times-add zero n a = ap (λ (k : ℕ). times k f a) (sym (zero-add n))
   times-add (suc m) n a = times-add m n (f a) ∙ ap (λ (k : ℕ). times k f a) (sym (suc-add m n))
 
+-- What one application keeps, any number of them keep.
+pub times-keeps : {A : Type 0} (f : A → A) (P : A → Type 0) → ((a : A) → P a → P (f a)) → (n : ℕ) (a : A) → P a → P (times n f a)
+unfolding times
+times-keeps f P keeps zero a p = p
+times-keeps f P keeps (suc n) a p = times-keeps f P keeps n (f a) (keeps a p)
+
 pub inTurn-append : {A : Type 0} (fs gs : List (A → A)) (a : A) → inTurn (fs ++ gs) a ≡ inTurn gs (inTurn fs a)
 unfolding inTurn
 inTurn-append [] gs a = refl

@@ -1,13 +1,20 @@
 -- The machine with a cut authenticator.
 -- Assumes nothing.
-use mathlib.Core.Path.{_≡_, refl, sym, ap, _∙_}
+use mathlib.Core.Path.{_≡_, refl, sym, ap, ap₂, _∙_}
 use mathlib.Core.Bool.{Bool}
-use mathlib.Core.List.{List, [], _∷_}
-use Prim.Native.Nat.{ℕ, _<_}
+use mathlib.Core.List.{List, [], _∷_, _++_}
+use Prim.Native.Nat.{ℕ, _+_, _<_}
 use native.Mathlib.Omega.{arith}
+use lib.ListN.{length, length-append}
+use Rattle.bits.specs.Bytes.{word}
+use Rattle.bits.proofs.Word.{length-word}
 use Rattle.preoutput.specs.Algebra.{single}
 use Rattle.preoutput.specs.Generator.{preoutput, plain}
+use Rattle.preoutput.specs.Words.{generatorOf}
+use Rattle.authenticator.specs.Words.{authenticatorOf}
 use Rattle.authenticator.proofs.Cutting.{cutting}
+use Rattle.machine.specs.declared.engine.Engine.{Engine}
+use Rattle.machine.specs.Engine.{stateOf}
 use Rattle.machine.specs.Machine.{State, step, run}
 use Rattle.machine.specs.Laws.{Sized, cut, Cutting}
 use Rattle.machine.proofs.Machine.{run-sized, crypt-sum}
@@ -33,3 +40,18 @@ module _ (k w : ℕ) (left : k < w) where
     run = cut-run st s sized;
     crypt = λ sealing. crypt-sum sealing (cut k st) s ∙ sym (crypt-sum sealing st s);
   }
+
+-- The machine in words, of which all but the first k places are meant.
+module _ (e : Engine) where
+  engine-sized : Sized 64 (stateOf e)
+  unfolding stateOf generatorOf authenticatorOf
+  engine-sized = record {
+    generator = record { lfsr = two-words (e .registers .lfsr0) (e .registers .lfsr1); nfsr = two-words (e .registers .nfsr0) (e .registers .nfsr1) };
+    authenticator = record { accumulator = length-word 64 (e .tagger .accumulator); register = length-word 64 (e .tagger .register) };
+  }
+    where
+      two-words : (a b : ℕ) → length (word 64 a ++ word 64 b) ≡ 128
+      two-words a b = length-append (word 64 a) (word 64 b) ∙ ap₂ _+_ (length-word 64 a) (length-word 64 b)
+
+  pub engine-cutting : (k : ℕ) → k < 64 → (s : List Bool) → Cutting k 64 (stateOf e) s
+  engine-cutting k left s = machine-cutting k 64 left (stateOf e) s engine-sized

@@ -3,12 +3,13 @@
 use mathlib.Core.Path.{_≡_, refl, ap, _∙_}
 use mathlib.Core.Bool.{Bool, false}
 use mathlib.Core.List.{List, [], _∷_}
-use Prim.Native.Nat.{ℕ, zero, suc}
+use Prim.Native.Nat.{ℕ, suc}
 use native.Mathlib.Omega.{arith}
 use lib.ListN.{length, take, drop, length-take, length-drop, length-replicate}
 use Rattle.bits.specs.Times.{times}
+use Rattle.bits.proofs.Times.{times-keeps}
 use Rattle.preoutput.specs.Algebra.{single}
-use Rattle.preoutput.specs.Generator.{Generator, Sized, fedBack, fedBackWith, keyed}
+use Rattle.preoutput.specs.Generator.{Generator, Sized, plain, fedBack, fedBackWith, keyed}
 use Rattle.preoutput.proofs.Sizes.{clock-sized}
 use Rattle.machine.specs.declared.edition.Edition.{Edition}
 use Rattle.machine.specs.declared.edition.Edition.the-variants.{First, Second}
@@ -18,10 +19,12 @@ use Rattle.startup.specs.Editions.{bitsIn, warmed, filling, started, ini
 use Rattle.startup.specs.Laws.{StartsSized}
 use Rattle.startup.proofs.Loaded.{key-bits, nonce-bits, loaded-sized}
 
-fed-back-sized : (n : ℕ) (g : Generator Bool) → Sized 128 g → Sized 128 (times n (fedBack single) g)
-unfolding times
-fed-back-sized zero g sized = sized
-fed-back-sized (suc n) g sized = fed-back-sized n (fedBack single g) (clock-sized single 128 g _ _ (omega arith) sized)
+-- Clocks keep the sizes of the registers.
+pub fed-back-sized : (n : ℕ) (g : Generator Bool) → Sized 128 g → Sized 128 (times n (fedBack single) g)
+fed-back-sized = times-keeps (fedBack single) (Sized 128) (λ g. clock-sized single 128 g _ _ (omega arith))
+
+pub plain-sized : (n : ℕ) (g : Generator Bool) → Sized 128 g → Sized 128 (times n (plain single) g)
+plain-sized = times-keeps (plain single) (Sized 128) (λ g. clock-sized single 128 g _ _ (omega arith))
 
 fed-back-with-sized : (ks ls : List Bool) (g : Generator Bool) → Sized 128 g → Sized 128 (fedBackWith single g ks ls)
 unfolding fedBackWith

@@ -1,6 +1,6 @@
 // Start-up of both editions: the loading, the clocks that warm the registers up, and those that fill accumulator and register.
 pub mod editions;
-mod feeding;
+pub mod feeding;
 mod filling;
 pub mod loading;
 

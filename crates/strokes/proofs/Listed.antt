@@ -1,13 +1,18 @@
 -- Bits by their places, and a word so.
 -- Assumes nothing.
-use mathlib.Core.Path.{_≡_, refl, ap, ap₂, _∙_}
-use mathlib.Core.Bool.{Bool}
+use mathlib.Core.Path.{_≡_, refl, sym, ap, ap₂, _∙_}
+use mathlib.Core.Bool.{Bool, false}
 use mathlib.Core.List.{List, _∷_}
-use Prim.Native.Nat.{ℕ, zero, suc, _-_, _<_, _≤_}
+use Prim.Native.Nat.{ℕ, zero, suc, _-_, _*_, _<_, _≤_}
 use native.Mathlib.Omega.{arith}
 use lib.ListN.{length, take}
+use lib.Seq.{ext-getD}
 use Rattle.bits.specs.Bytes.{bit, word}
 use Rattle.bits.specs.Strings.{places}
+use Rattle.bits.specs.Times.{times}
+use Rattle.preoutput.specs.Algebra.{single}
+use Rattle.preoutput.specs.Generator.{Generator, preoutput, plain, every}
+use Rattle.preoutput.proofs.Spaced.{length-every, every-at}
 use Rattle.strokes.specs.Strokes.{listed}
 
 pub listed-agrees : (n : ℕ) (f g : ℕ → Bool) → ((i : ℕ) → i < n → f i ≡ g i) → listed n f ≡ listed n g
@@ -38,3 +43,12 @@ word-listed zero x = refl
 word-listed (suc n) x =
     ap₂ _∷_ (ap (λ (k : ℕ). bit k x) (omega arith))
     (word-listed n x ∙ listed-agrees n (λ i. bit (n - suc i) x) (λ i. bit (suc n - suc (suc i)) x) (λ i h. ap (λ (k : ℕ). bit k x) (omega arith)))
+
+-- Every p-th pre-output, by its clock.
+pub every-listed : (p n : ℕ) (g : Generator Bool) → every single p n g ≡ listed n (λ i. preoutput single (times (p * i) (plain single) g))
+every-listed p n g =
+    ext-getD false (every single p n g) (listed n at) (length-every p n g ∙ sym (length-listed n at))
+    (λ i h. let l : i < n = omega (arith, length-every p n g) in every-at p n i g l ∙ sym (places-listed n at i l))
+  where
+    at : ℕ → Bool
+    at i = preoutput single (times (p * i) (plain single) g)

@@ -1,0 +1,9 @@
+pub mod StartUp
+pub mod Payload
+pub mod Preoutputs
+pub mod Settled
+pub mod Demand2
+pub mod Demand3
+pub mod Twice
+pub mod TagNumber
+pub mod Entry

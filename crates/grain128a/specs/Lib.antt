@@ -1,0 +1,9 @@
+pub mod Bits
+pub mod StartUp
+pub mod Payload
+pub mod Calls
+pub mod Laws
+pub mod Demand2
+pub mod Demand3
+pub mod Twice
+pub mod TagNumber
