@@ -5,22 +5,21 @@ use mathlib.Core.Logic.{_↔_}
 use mathlib.Core.Bool.{Bool}
 use mathlib.Core.List.{List, _++_}
 use Prim.Native.Nat.{ℕ, _+_, _*_, _≤_}
-use native.Mathlib.Nat.{le-of-eq, lt-of-le-of-lt}
+use native.Mathlib.Nat.{lt-of-le-of-lt}
 use native.Mathlib.Omega.{arith}
 use lib.ListN.{length, take, drop, length-append, length-drop, take-append-drop}
 use lib.Seq.{length-take-le}
 use Rattle.bits.specs.Bytes.{Bytes}
 use Rattle.bits.specs.Strings.{_⊞_}
 use Rattle.bits.proofs.Flip.{Flips}
-use Rattle.bits.proofs.Sum.{sum-comm, sum-twice}
 use Rattle.machine.specs.declared.edition.Edition.{Edition}
 use Rattle.startup.specs.Editions.{bitsIn, flipIn}
-use Rattle.startup.proofs.Order.{length-flipIn, flipIn-are-bytes, flipIn-flipIn, flipIn-append, sum-flipIn, length-sum-bitsIn, flipIn-sum}
+use Rattle.startup.proofs.Order.{length-flipIn, flipIn-are-bytes, flipIn-append, sum-flipIn, length-sum-bitsIn, flipIn-sum}
 use Rattle.payload.specs.Sizes.{tagSize}
 use Rattle.payload.specs.Payload.{ciphertext, deciphered, tag, payload, ciphertextPart, tagPart}
 use Rattle.payload.specs.TwoTags.{differingRegisters}
 use Rattle.payload.proofs.AuthenticatedString.{unambiguous}
-use Rattle.payload.proofs.Payload.{ciphertextPart-joined, tagPart-joined, length-ciphertext, length-tag, length-payload, under, length-under, ciphertext-flip, deciphered-flip, under-same}
+use Rattle.payload.proofs.Payload.{ciphertextPart-joined, tagPart-joined, length-ciphertext, length-tag, length-payload, deciphered-flipped}
 use Rattle.payload.proofs.EqualLengths.{flipped-lengths}
 use Rattle.grain128aead.specs.Sizes.{adLimit}
 use Rattle.grain128aead.specs.Calls.{recovered, opened}
@@ -34,14 +33,6 @@ use Rattle.grain128aead.proofs.Substitution.{verdict, tag-part, authent
 
 pub distinct : Distinct
 distinct ed ad message ad′ message′ b c b′ c′ l l′ = unambiguous ed ad message ad′ message′ b c b′ c′ (lt-of-le-of-lt l two-bytes) (lt-of-le-of-lt l′ two-bytes)
-
--- Three flips of which the first and the last are the same are the one in the middle.
-flip-between : (ed : Edition) (s : List ℕ) (k d : List Bool) → Flips s k → Flips s d → flipIn ed (flipIn ed (flipIn ed s k) d) k ≡ flipIn ed s d
-flip-between ed s k d hk hd =
-    flipIn-flipIn ed (flipIn ed s k) d k (hd ∙ ap (λ (n : ℕ). 8 * n) (sym (length-flipIn ed s k)))
-    ∙ flipIn-flipIn ed s k (d ⊞ k) hk
-    ∙ ap (λ (r : List Bool). flipIn ed s (k ⊞ r)) (sum-comm d k)
-    ∙ ap (flipIn ed s) (sum-twice k d (le-of-eq (hk ∙ sym hd)))
 
 module _ {ed : Edition} {key nonce ad input : List ℕ} (f : Flipped ed key nonce ad input) where
   open Flipped f using (oldAd, oldMessage, inAd, inCiphertext, inTag)
@@ -79,11 +70,7 @@ module _ {ed : Edition} {key nonce ad input : List ℕ} (f : Flipped ed key nonc
   unfolding recovered c′
   recovers =
       ap (deciphered ed key nonce ad) (ap ciphertextPart input-parts ∙ ciphertextPart-joined c′ t′ length-t′)
-      ∙ deciphered-flip ed key nonce ad c′
-      ∙ ap (λ (n : ℕ). flipIn ed c′ (under ed key nonce ad n)) length-c′
-      ∙ ap (flipIn ed c′) (under-same ed key nonce ad oldAd (length oldMessage) length-ad)
-      ∙ ap (λ (c : List ℕ). flipIn ed (flipIn ed c inCiphertext) (under ed key nonce oldAd (length oldMessage))) (ciphertext-flip ed key nonce oldAd oldMessage)
-      ∙ flip-between ed oldMessage (under ed key nonce oldAd (length oldMessage)) inCiphertext (length-under ed key nonce oldAd (length oldMessage)) (f .ciphertextFlips)
+      ∙ deciphered-flipped ed key nonce oldAd ad oldMessage inCiphertext (sym length-ad) (f .ciphertextFlips)
 
   -- Its tag is the genuine one with the tag's flips.
   received-tag : tagPart input ≡ flipIn ed (tag ed key nonce oldAd oldMessage) inTag

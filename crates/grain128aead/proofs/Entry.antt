@@ -202,7 +202,7 @@ module _ {key nonce ad input lent : List ℕ} {c : Check} (checks : OpenChecked 
       tag-bytes : Bytes (tagPart input)
       tag-bytes = rw (tagPart-is input open-reaches) (Bytes-drop (length input - tagSize) input (words .isBytes))
 
-      pub open-passed : {out : List ℕ} → r ≡ n → out ≡ withKeystream (b .edition) (generatorOf (b .registers)) (take (length lent) (ciphertextPart input)) ++ drop (length (take (length lent) (ciphertextPart input))) lent
+      pub open-passed : {out : List ℕ} → r ≡ n → out ≡ withKeystream ed 2 (generatorOf (b .registers)) (take (length lent) (ciphertextPart input)) ++ drop (length (take (length lent) (ciphertextPart input))) lent
           → outcome (Count (length input - tagSize)) out ≡ opened ed key nonce ad input lent
       unfolding recovered deciphered stateOf
       open-passed {out} same added =
@@ -214,8 +214,8 @@ module _ {key nonce ad input lent : List ℕ} {c : Check} (checks : OpenChecked 
           part : List ℕ
           part = ciphertextPart input
 
-          whole : out ≡ withKeystream ed (generatorOf (b .registers)) part ++ drop (length part) lent
-          whole = rw (edition, take-all (length lent) part (omega (arith, length-ciphertextPart input open-reaches, open-room))) at added
+          whole : out ≡ withKeystream ed 2 (generatorOf (b .registers)) part ++ drop (length part) lent
+          whole = rw (take-all (length lent) part (omega (arith, length-ciphertextPart input open-reaches, open-room))) at added
 
           counted : length input - tagSize ≡ length (recovered ed key nonce ad input)
           counted = sym (length-deciphered ed key nonce ad part ∙ length-ciphertextPart input open-reaches)

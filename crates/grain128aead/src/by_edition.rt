@@ -18,6 +18,7 @@ use machine::engine::Engine;
 use refusals::Answer;
 use refusals::Check;
 use refusals::Refusal;
+use strokes::streams::Taken;
 
 // The machine where the message begins.
 fn begin(edition: Edition, key: &[u8], nonce: &[u8], ad: &[u8]) -> Engine
@@ -86,7 +87,8 @@ pub fn open(
             let done = strings::decipher_all(begun, ciphertext);
             if payload::tag::finish(done) == bits::number(payload::parts::tag_part(input)) {
                 let count = n - 8;
-                strings::add_keystream(begun, ciphertext, out);
+                let registers = begun.registers;
+                strings::add_keystream(edition, Taken::EverySecond, registers, ciphertext, out);
                 Answer::Count(count)
             } else {
                 Answer::Refused(Refusal::TagDiffers)

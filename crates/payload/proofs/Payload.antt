@@ -1,4 +1,4 @@
--- Payloads: the lengths of their pieces, the two parts of a sealed input, and the ciphertext as the message flipped by the keystream.
+-- Payloads: the lengths of their pieces, the two parts of a sealed input, and the ciphertext deciphered, flipped or not.
 -- Assumes nothing.
 use mathlib.Core.Path.{_≡_, refl, sym, ap, ap₂, _∙_, subst}
 use mathlib.Core.Bool.{Bool, true, false}
@@ -10,14 +10,13 @@ use lib.Dec.{ltb}
 use lib.ListN.{length, take, drop, length-append, take-append-drop, length-drop}
 use lib.Seq.{take-at, drop-at}
 use Rattle.bits.specs.Bytes.{Bytes}
+use Rattle.bits.proofs.Flip.{Flips}
 use Rattle.bits.proofs.Packing.{Bytes-take, Bytes-drop}
-use Rattle.preoutput.specs.Algebra.{single}
-use Rattle.preoutput.specs.Generator.{Generator, everySecond}
 use Rattle.machine.specs.declared.edition.Edition.{Edition}
 use Rattle.machine.specs.Machine.{encipher, decipher}
 use Rattle.machine.proofs.Machine.{run-generator}
 use Rattle.strings.proofs.OverBytes.{cryptBytes}
-use Rattle.strings.proofs.ByteStrings.{keystreamUnder, length-keystreamUnder, bitsIn-cryptBytes, cryptBytes-flip, cryptBytes-twice}
+use Rattle.strings.proofs.ByteStrings.{bitsIn-cryptBytes, cryptBytes-twice, cryptBytes-between}
 use Rattle.startup.specs.Editions.{bitsIn, flipIn, initialised}
 use Rattle.startup.proofs.Order.{length-bitsIn, length-bytesIn, bytesIn-are-bytes}
 use Rattle.payload.specs.Sizes.{tagSize}
@@ -123,22 +122,7 @@ module _ (ed : Edition) (key nonce ad : List ℕ) where
     payload = length-payload message;
   }
 
-  -- ---- the keystream under the message
-
-  -- The keystream bits under n message bytes.
-  abbrev pub under : ℕ → List Bool
-  under = keystreamUnder (begun ed key nonce ad)
-
-  pub length-under : (n : ℕ) → length (under n) ≡ 8 * n
-  length-under = length-keystreamUnder (begun ed key nonce ad)
-
-  pub ciphertext-flip : (message : List ℕ) → ciphertext ed key nonce ad message ≡ flipIn ed message (under (length message))
-  unfolding ciphertext cryptBytes
-  ciphertext-flip = cryptBytes-flip ed (begun ed key nonce ad) true
-
-  pub deciphered-flip : (c : List ℕ) → deciphered ed key nonce ad c ≡ flipIn ed c (under (length c))
-  unfolding deciphered cryptBytes
-  deciphered-flip = cryptBytes-flip ed (begun ed key nonce ad) false
+  -- ---- there and back
 
   pub deciphered-ciphertext : (message : List ℕ) → Bytes message → deciphered ed key nonce ad (ciphertext ed key nonce ad message) ≡ message
   unfolding ciphertext deciphered cryptBytes
@@ -152,10 +136,15 @@ length-header : (ed : Edition) (ad : List ℕ) → length (header ed ad) ≡ 8 *
 unfolding header
 length-header ed ad = omega (arith, length-append (bitsIn ed (codedLength (length ad))) (bitsIn ed ad), length-bitsIn ed (codedLength (length ad)), length-bitsIn ed ad)
 
--- The keystream under the message does not see the bits of the AD.
-pub under-same : (ed : Edition) (key nonce ad ad′ : List ℕ) (n : ℕ) → length ad ≡ length ad′ → under ed key nonce ad n ≡ under ed key nonce ad′ n
-unfolding keystreamUnder begun
-under-same ed key nonce ad ad′ n e =
-    ap (λ (g : Generator Bool). everySecond single (8 * n) g)
-    (run-generator (initialised ed key nonce) (initialised ed key nonce) (header ed ad) (header ed ad′) refl
-    (length-header ed ad ∙ ap (λ (k : ℕ). 8 * (length (codedLength k) + k)) e ∙ sym (length-header ed ad′)))
+-- The generator where the message begins does not see the bits of the AD.
+pub begun-generator : (ed : Edition) (key nonce ad ad′ : List ℕ) → length ad ≡ length ad′ → begun ed key nonce ad .generator ≡ begun ed key nonce ad′ .generator
+unfolding begun
+begun-generator ed key nonce ad ad′ e =
+    run-generator (initialised ed key nonce) (initialised ed key nonce) (header ed ad) (header ed ad′) refl
+    (length-header ed ad ∙ ap (λ (k : ℕ). 8 * (length (codedLength k) + k)) e ∙ sym (length-header ed ad′))
+
+-- A ciphertext that is flipped, under an AD as long, hides the message flipped.
+pub deciphered-flipped : (ed : Edition) (key nonce ad ad′ message : List ℕ) (d : List Bool) → length ad ≡ length ad′ → Flips message d
+    → deciphered ed key nonce ad′ (flipIn ed (ciphertext ed key nonce ad message) d) ≡ flipIn ed message d
+unfolding ciphertext deciphered cryptBytes
+deciphered-flipped ed key nonce ad ad′ message d e = cryptBytes-between ed (begun ed key nonce ad) (begun ed key nonce ad′) true false message d (begun-generator ed key nonce ad ad′ e)

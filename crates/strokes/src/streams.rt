@@ -61,8 +61,9 @@ pub fn stream_word(g: Registers) -> Streamed
 pub fn preoutput_word(g: Registers) -> Keystreamed
     ensures { λ r. ⌜ Keystreams 1 32 (generatorOf g) (r .registers) (r .keystream) ⌝ }
 {
+    let registers = stroke::plain_stroke(g);
     Keystreamed {
-        registers: stroke::plain_stroke(g),
+        registers,
         keystream: bits::slide(0, stroke::outputs(g) << 32, 32),
     }
 }
@@ -77,11 +78,11 @@ pub fn keystream_byte(g: Registers, taken: Taken) -> Keystreamed
             keystream: bits::slide(0, stroke::outputs(g) << 32, 8),
         },
         Taken::EverySecond => {
-            let s = stream_byte(g);
-            let registers = s.registers;
+            let both = stream_byte(g);
+            let registers = both.registers;
             Keystreamed {
                 registers,
-                keystream: s.keystream,
+                keystream: both.keystream,
             }
         }
     }

@@ -133,12 +133,12 @@ same-length c = search needs
 
 returns-2 : tie.Need-returns-2
 returns-2 c =
-    let n = c .before .before .before .before .before in
+    let n = c .before .before .before .before .before .before in
     let p = n .before .before .before .before .before in
     let j = p .before .before .before in
     let a = j .before .before .before .before .before .before .args in
     called (a .edition) (a .key .now) (a .nonce .now) (a .ad .now) (a .input .now) (a .out .now) (is-bytes j)
-    (open-passed (checked j) (p .before .enum-told .given .1) (compared n) (c .before .before .before .before .if1 .taken) (rw (p .ciphertext-part .ensures) at (c .before .before .add-keystream .ensures)))
+    (open-passed (checked j) (p .before .enum-told .given .1) (compared n) (c .before .before .before .before .before .if1 .taken) (rw (p .ciphertext-part .ensures) at (c .before .before .add-keystream .ensures)))
 
 returns-3 : tie.Need-returns-3
 returns-3 c =
