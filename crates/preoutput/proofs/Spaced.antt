@@ -16,7 +16,7 @@ module _ (p : ℕ) where
   pub length-every : (n : ℕ) (g : Generator Bool) → length (every single p n g) ≡ n
   unfolding every
   length-every zero g = refl
-  length-every (suc n) g = ap suc (length-every n (times p (plain single) g))
+  length-every (suc n) g = ap suc (length-every n _)
 
   -- The clocks of none, and of one and of n more.
   pub clocks-none : (g : Generator Bool) → times (p * 0) (plain single) g ≡ g
