@@ -15,11 +15,12 @@ use Rattle.bits.proofs.Flip.{Flips}
 use Rattle.machine.specs.declared.edition.Edition.{Edition}
 use Rattle.startup.specs.Editions.{bitsIn, flipIn}
 use Rattle.startup.proofs.Order.{length-flipIn, flipIn-are-bytes, flipIn-append, sum-flipIn, length-sum-bitsIn, flipIn-sum}
+use Rattle.tagged.proofs.Parts.{ciphertextPart-joined, tagPart-joined}
 use Rattle.payload.specs.Sizes.{tagSize}
 use Rattle.payload.specs.Payload.{ciphertext, deciphered, tag, payload, ciphertextPart, tagPart}
 use Rattle.payload.specs.TwoTags.{differingRegisters}
 use Rattle.payload.proofs.AuthenticatedString.{unambiguous}
-use Rattle.payload.proofs.Payload.{ciphertextPart-joined, tagPart-joined, length-ciphertext, length-tag, length-payload, deciphered-flipped}
+use Rattle.payload.proofs.Payload.{length-ciphertext, length-tag, length-payload, deciphered-flipped}
 use Rattle.payload.proofs.EqualLengths.{flipped-lengths}
 use Rattle.grain128aead.specs.Sizes.{adLimit}
 use Rattle.grain128aead.specs.Calls.{recovered, opened}
@@ -27,9 +28,8 @@ use Rattle.grain128aead.specs.Demand2.{Legal}
 use Rattle.grain128aead.specs.Demand3.{Distinct, Flipped, Agrees, Demand3}
 use Rattle.grain128aead.specs.Substitution.{genuine, EqualLengths, EveryFlip}
 use Rattle.grain128aead.proofs.AdLengths.{two-bytes}
-use Rattle.grain128aead.proofs.Authentic.{Authentic}
-use Rattle.grain128aead.proofs.Demand2.{InOrder, legal-in-order}
-use Rattle.grain128aead.proofs.Substitution.{verdict, tag-part, authentic-sum}
+use Rattle.grain128aead.proofs.Demand2.{Authentic, InOrder, legal-in-order, verdict}
+use Rattle.grain128aead.proofs.Substitution.{tag-part, authentic-sum}
 
 pub distinct : Distinct
 distinct ed ad message ad′ message′ b c b′ c′ l l′ = unambiguous ed ad message ad′ message′ b c b′ c′ (lt-of-le-of-lt l two-bytes) (lt-of-le-of-lt l′ two-bytes)
@@ -67,15 +67,15 @@ module _ {ed : Edition} {key nonce ad input : List ℕ} (f : Flipped ed key nonc
 
   -- It hides the old message with the ciphertext's flips.
   recovers : recovered ed key nonce ad input ≡ flipIn ed oldMessage inCiphertext
-  unfolding recovered c′
+  unfolding c′
   recovers =
-      ap (deciphered ed key nonce ad) (ap ciphertextPart input-parts ∙ ciphertextPart-joined c′ t′ length-t′)
+      ap (deciphered ed key nonce ad) (ap ciphertextPart input-parts ∙ ciphertextPart-joined tagSize c′ t′ length-t′)
       ∙ deciphered-flipped ed key nonce oldAd ad oldMessage inCiphertext (sym length-ad) (f .ciphertextFlips)
 
   -- Its tag is the genuine one with the tag's flips.
   received-tag : tagPart input ≡ flipIn ed (tag ed key nonce oldAd oldMessage) inTag
   unfolding t′
-  received-tag = ap tagPart input-parts ∙ tagPart-joined c′ t′ length-t′
+  received-tag = ap tagPart input-parts ∙ tagPart-joined tagSize c′ t′ length-t′
 
   flipped-bytes : Bytes (flipIn ed (tag ed key nonce oldAd oldMessage) inTag)
   flipped-bytes = flipIn-are-bytes ed _ inTag

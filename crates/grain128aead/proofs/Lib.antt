@@ -1,7 +1,6 @@
 pub mod AdLengths
 pub mod LargestJob
 pub mod Settled
-pub mod Authentic
 pub mod Demand2
 pub mod Substitution
 pub mod Demand3

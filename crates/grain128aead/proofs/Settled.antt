@@ -1,6 +1,6 @@
 -- The calls by the rows before the tag's, with the tag's row behind them.
 -- Assumes nothing.
-use mathlib.Core.Path.{_≡_, ap, _∙_}
+use mathlib.Core.Path.{_≡_, sym, ap, _∙_}
 use mathlib.Core.Bool.{Bool, false}
 use mathlib.Core.List.{List}
 use Prim.Native.Nat.{ℕ, _+_, _-_}
@@ -8,8 +8,10 @@ use lib.Dec.{ltb}
 use lib.ListN.{length}
 use Rattle.refusals.specs.declared.Refusal.the-variants.{TagDiffers}
 use Rattle.refusals.specs.declared.Check.{Check}
+use Rattle.refusals.specs.declared.Check.the-variants.{Passed}
 use Rattle.refusals.specs.Refusals.{among, after, check}
 use Rattle.refusals.specs.Outcome.{settled, judged}
+use Rattle.refusals.proofs.Demand1.{decides}
 use Rattle.refusals.proofs.LastRow.{after-false, check-last}
 use Rattle.machine.specs.declared.edition.Edition.{Edition}
 use Rattle.payload.specs.Sizes.{tagSize}
@@ -17,23 +19,45 @@ use Rattle.payload.specs.Payload.{payload}
 use Rattle.grain128aead.specs.Sizes.{adLimit, messageLimit}
 use Rattle.checks.specs.Order.{beforeTag, order}
 use Rattle.checks.specs.Rows.{table, rows}
+use Rattle.checks.proofs.Demand1.{tabled, none-at-all}
+use Rattle.checks.proofs.Rows.{NoneApplies, rows-clear, clear-rows}
 use Rattle.grain128aead.specs.Calls.{sealed, recovered, tagDiffers, opened}
 
 -- What the rows before the tag's come to, whatever the tag.
 abbrev pub judgement : (key nonce ad : List ℕ) → (tooLong tooShort noRoom : Bool) → Check
 judgement key nonce ad tooLong tooShort noRoom = check beforeTag (rows adLimit key nonce ad tooLong tooShort noRoom false)
 
-pub check-rows : (key nonce ad : List ℕ) (tooLong tooShort noRoom differs : Bool) → check order (rows adLimit key nonce ad tooLong tooShort noRoom differs) ≡ after (judgement key nonce ad tooLong tooShort noRoom) TagDiffers differs
-unfolding order table among check beforeTag
-check-rows key nonce ad tooLong tooShort noRoom differs = check-last beforeTag TagDiffers (rows adLimit key nonce ad tooLong tooShort noRoom differs)
+abbrev pub sealingJudgement : (key nonce ad message out : List ℕ) → Check
+sealingJudgement key nonce ad message out = judgement key nonce ad (ltb messageLimit (length message)) false (ltb (length out) (length message + tagSize))
+
+abbrev pub openingJudgement : (key nonce ad input out : List ℕ) → Check
+openingJudgement key nonce ad input out =
+    judgement key nonce ad (ltb (messageLimit + tagSize) (length input)) (ltb (length input) tagSize) (ltb (length out) (length input - tagSize))
+
+module _ (key nonce ad : List ℕ) (tooLong tooShort noRoom : Bool) where
+  pub check-rows : (differs : Bool) → check order (rows adLimit key nonce ad tooLong tooShort noRoom differs) ≡ after (judgement key nonce ad tooLong tooShort noRoom) TagDiffers differs
+  unfolding order table among check beforeTag
+  check-rows differs = check-last beforeTag TagDiffers (rows adLimit key nonce ad tooLong tooShort noRoom differs)
+
+  -- The rows before the tag's pass exactly where none of them applies.
+  pub passed-clear : judgement key nonce ad tooLong tooShort noRoom ≡ Passed → NoneApplies adLimit key nonce ad tooLong tooShort noRoom false
+  passed-clear e =
+      rows-clear adLimit key nonce ad tooLong tooShort noRoom false
+      (none-at-all order (table adLimit key nonce ad tooLong tooShort noRoom false) (tabled adLimit key nonce ad tooLong tooShort noRoom false)
+      (decides (rows adLimit key nonce ad tooLong tooShort noRoom false) order .passes .0 (check-rows false ∙ ap (λ (c : Check). after c TagDiffers false) e)))
+
+  pub clear-passed : NoneApplies adLimit key nonce ad tooLong tooShort noRoom false → judgement key nonce ad tooLong tooShort noRoom ≡ Passed
+  clear-passed clear =
+      sym (check-rows false ∙ after-false _ TagDiffers)
+      ∙ decides (rows adLimit key nonce ad tooLong tooShort noRoom false) order .passes .1 (λ r listed. clear-rows adLimit key nonce ad tooLong tooShort noRoom false clear r)
 
 pub sealed-settled : (ed : Edition) (key nonce ad message out : List ℕ)
-    → sealed ed key nonce ad message out ≡ settled (judgement key nonce ad (ltb messageLimit (length message)) false (ltb (length out) (length message + tagSize))) (payload ed key nonce ad message) out
+    → sealed ed key nonce ad message out ≡ settled (sealingJudgement key nonce ad message out) (payload ed key nonce ad message) out
 unfolding sealed judged
 sealed-settled ed key nonce ad message out = ap (λ (c : Check). settled c (payload ed key nonce ad message) out) (check-rows key nonce ad _ _ _ false ∙ after-false _ TagDiffers)
 
 pub opened-settled : (ed : Edition) (key nonce ad input out : List ℕ)
     → opened ed key nonce ad input out
-    ≡ settled (after (judgement key nonce ad (ltb (messageLimit + tagSize) (length input)) (ltb (length input) tagSize) (ltb (length out) (length input - tagSize))) TagDiffers (tagDiffers ed key nonce ad input)) (recovered ed key nonce ad input) out
+    ≡ settled (after (openingJudgement key nonce ad input out) TagDiffers (tagDiffers ed key nonce ad input)) (recovered ed key nonce ad input) out
 unfolding opened judged
 opened-settled ed key nonce ad input out = ap (λ (c : Check). settled c (recovered ed key nonce ad input) out) (check-rows key nonce ad _ _ _ (tagDiffers ed key nonce ad input))

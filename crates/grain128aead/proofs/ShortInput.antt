@@ -5,7 +5,6 @@ use mathlib.Core.Bool.{true, false, true≢false}
 use Prim.Native.Nat.{_+_, _-_}
 use native.Mathlib.Omega.{arith}
 use borrow.Author.Tests.{lt-ltb, le-ltb}
-use lib.Dec.{ltb}
 use lib.ListN.{length}
 use Rattle.refusals.specs.declared.Refusal.the-variants.{TagDiffers}
 use Rattle.refusals.specs.declared.Check.{Check}
@@ -16,8 +15,7 @@ use Rattle.payload.specs.Sizes.{tagSize}
 use Rattle.grain128aead.specs.Sizes.{messageLimit}
 use Rattle.grain128aead.specs.Calls.{recovered, tagDiffers}
 use Rattle.grain128aead.specs.Demand1.{ShortInput}
-use Rattle.grain128aead.proofs.Entry.{passed-clear}
-use Rattle.grain128aead.proofs.Settled.{judgement, check-rows, opened-settled}
+use Rattle.grain128aead.proofs.Settled.{judgement, openingJudgement, check-rows, passed-clear, opened-settled}
 
 pub short-input : ShortInput
 unfolding judged
@@ -28,5 +26,5 @@ short-input ed key nonce ad input out h wrongTag message =
     (λ e. true≢false (passed-clear key nonce ad false true false e .reaches))
     ∙ sym (ap (λ (c : Check). settled c message out) (check-rows key nonce ad false true false wrongTag))
   where
-    sizes : judgement key nonce ad (ltb (messageLimit + tagSize) (length input)) (ltb (length input) tagSize) (ltb (length out) (length input - tagSize)) ≡ judgement key nonce ad false true false
+    sizes : openingJudgement key nonce ad input out ≡ judgement key nonce ad false true false
     sizes = simp (le-ltb (messageLimit + tagSize) (length input) (omega arith), lt-ltb (length input) tagSize h, le-ltb (length out) (length input - tagSize) (omega arith))

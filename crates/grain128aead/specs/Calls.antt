@@ -1,19 +1,19 @@
 -- Sealing and opening in each edition: from key, nonce, AD, message or sealed input and the lent output, byte strings of any length, to the
 -- answer and the output afterwards (document 01, "When the box says no"; document 02, C-18).
-use mathlib.Core.Bool.{Bool, false, not}
+use mathlib.Core.Bool.{Bool, false}
 use mathlib.Core.List.{List}
 use Prim.Native.Nat.{ℕ, _+_, _-_}
 use lib.Dec.{ltb}
 use lib.ListN.{length}
-use Rattle.bits.specs.Bytes.{same}
 use Rattle.refusals.specs.declared.Refusal.{Refusal}
 use Rattle.refusals.specs.Refusals.{Row, among}
 use Rattle.refusals.specs.Outcome.{Outcome, judged}
+use Rattle.tagged.specs.Payload as tagged
 use Rattle.checks.specs.Order.{order}
 use Rattle.checks.specs.Rows.{table}
 use Rattle.machine.specs.declared.edition.Edition.{Edition}
 use Rattle.payload.specs.Sizes.{tagSize}
-use Rattle.payload.specs.Payload.{payload, deciphered, tag, ciphertextPart, tagPart}
+use Rattle.payload.specs.Payload.{payload, cipher}
 use Rattle.grain128aead.specs.Sizes.{adLimit, messageLimit}
 
 -- Rows 5 and 7 do not apply to sealing.
@@ -28,12 +28,12 @@ unfoldable pub sealed : Edition → (key nonce ad message out : List ℕ) → Ou
 sealed e key nonce ad message out = judged order (sealingRow key nonce ad message out) (payload e key nonce ad message) out
 
 -- The message of a sealed input.
-unfoldable pub recovered : Edition → (key nonce ad input : List ℕ) → List ℕ
-recovered e key nonce ad input = deciphered e key nonce ad (ciphertextPart input)
+abbrev pub recovered : Edition → (key nonce ad input : List ℕ) → List ℕ
+recovered e key nonce ad = tagged.recovered (cipher e key nonce ad)
 
 -- The tag differs from the recomputed one.
-unfoldable pub tagDiffers : Edition → (key nonce ad input : List ℕ) → Bool
-tagDiffers e key nonce ad input = not (same (tagPart input) (tag e key nonce ad (recovered e key nonce ad input)))
+abbrev pub tagDiffers : Edition → (key nonce ad input : List ℕ) → Bool
+tagDiffers e key nonce ad = tagged.tagDiffers (cipher e key nonce ad)
 
 abbrev pub openingTable : Edition → (key nonce ad input out : List ℕ) → List Row
 openingTable e key nonce ad input out =

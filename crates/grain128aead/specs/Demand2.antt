@@ -1,12 +1,11 @@
 -- Demand 2 on the definitions: a sealed payload is what the machine gives; opening accepts exactly what some message makes.
 use mathlib.Core.Path.{_≡_}
-use mathlib.Core.Logic.{_↔_, _≢_}
+use mathlib.Core.Logic.{_≢_}
 use mathlib.Core.List.{List}
-use Prim.Native.Nat.{ℕ, _+_, _≤_}
+use Prim.Native.Nat.{ℕ, _≤_}
 use lib.ListN.{length}
-use Rattle.bits.specs.Bytes.{Bytes}
-use Rattle.refusals.specs.Outcome.{Outcome, success}
-use Rattle.refusals.specs.Demand1.{Accepts}
+use Rattle.refusals.specs.Outcome.{Outcome}
+use Rattle.tagged.specs.Demands as tagged
 use Rattle.machine.specs.declared.edition.Edition.{Edition}
 use Rattle.key.specs.Sizes.{keySize, nonceSize}
 use Rattle.key.specs.BlankKey.{blankKey}
@@ -24,19 +23,14 @@ pub record Legal (key nonce ad message : List ℕ) : Type 0 where
 
 -- The payload p is genuine for the key, the nonce and the AD: these rules make it from them and the message, all legal. The message is
 -- the old one of document 01.
-pub record Makes (e : Edition) (key nonce ad message p : List ℕ) : Type 0 where
-  pub isBytes : Bytes message
-  pub legal : Legal key nonce ad message
-  pub made : payload e key nonce ad message ≡ p
+abbrev pub Makes : Edition → (key nonce ad message p : List ℕ) → Type 0
+Makes e key nonce ad = tagged.Makes (Legal key nonce ad) (payload e key nonce ad)
 
 -- Sealing succeeds exactly with what is legal and room for the payload, and then writes the payload.
-pub record Sealing (e : Edition) (key nonce ad message out : List ℕ) (o : Outcome) : Type 0 where
-  pub accepts : Accepts o ↔ (Legal key nonce ad message × (length message + tagSize ≤ length out))
-  pub seals : Legal key nonce ad message → length message + tagSize ≤ length out → o ≡ success (payload e key nonce ad message) out
+abbrev pub Sealing : Edition → (key nonce ad message out : List ℕ) → Outcome → Type 0
+Sealing e key nonce ad = tagged.Sealing (Legal key nonce ad) (payload e key nonce ad) tagSize
 
 -- Opening accepts exactly when some message makes these very bytes, and there is room for it. It returns that message, and there is
 -- only one.
-pub record Demand2 (e : Edition) (key nonce ad input out : List ℕ) (o : Outcome) : Type 0 where
-  pub accepts : Accepts o ↔ ((m : List ℕ) × Makes e key nonce ad m input × (length m ≤ length out))
-  pub returns : (m : List ℕ) → Makes e key nonce ad m input → length m ≤ length out → o ≡ success m out
-  pub unique : (m n : List ℕ) → Makes e key nonce ad m input → Makes e key nonce ad n input → m ≡ n
+abbrev pub Demand2 : Edition → (key nonce ad input out : List ℕ) → Outcome → Type 0
+Demand2 e key nonce ad = tagged.Demand2 (Legal key nonce ad) (payload e key nonce ad)

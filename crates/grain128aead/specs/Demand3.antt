@@ -1,14 +1,12 @@
 -- Demand 3 on the definitions.
 use mathlib.Core.Path.{_≡_}
-use mathlib.Core.Logic.{_↔_}
 use mathlib.Core.Bool.{Bool}
 use mathlib.Core.List.{List, _++_}
 use Prim.Native.Nat.{ℕ, _*_, _≤_}
 use lib.ListN.{length}
 use Rattle.bits.specs.Bytes.{Bytes}
-use Rattle.refusals.specs.declared.Refusal.the-variants.{TagDiffers}
-use Rattle.refusals.specs.Outcome.{Outcome, success, refused}
-use Rattle.refusals.specs.Demand1.{Accepts}
+use Rattle.refusals.specs.Outcome.{Outcome}
+use Rattle.tagged.specs.Demands as tagged
 use Rattle.machine.specs.declared.edition.Edition.{Edition}
 use Rattle.startup.specs.Editions.{flipIn}
 use Rattle.payload.specs.AuthenticatedString.{authenticated}
@@ -44,10 +42,8 @@ Agrees {e} {key} {nonce} f = flippedRegisters e key nonce (f .oldAd) (f .inAd) (
 
 -- What opening does by a condition: it accepts exactly when the condition holds, and then returns the message; otherwise it is refusal 7,
 -- and the output is as lent.
-pub record Verdict (condition : Type 0) (message out : List ℕ) (o : Outcome) : Type 0 where
-  pub accepts : Accepts o ↔ condition
-  pub returns : condition → o ≡ success message out
-  pub refuses : ¬ condition → o ≡ refused TagDiffers out
+abbrev pub Verdict : (condition : Type 0) → (message out : List ℕ) → Outcome → Type 0
+Verdict = tagged.Verdict
 
 -- Whatever genuine payload and flips the AD and the input come from, and given room for the message: opening goes by whether the registers
 -- add up to the tag's flips, and returns the old message with the ciphertext's flips.

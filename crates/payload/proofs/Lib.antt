@@ -1,6 +1,7 @@
 pub mod AuthenticatedString
 pub mod Job
 pub mod Payload
+pub mod Sound
 pub mod Begun
 pub mod Machine
 pub mod TwoTags

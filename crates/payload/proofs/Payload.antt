@@ -1,17 +1,13 @@
--- Payloads: the lengths of their pieces, the two parts of a sealed input, and the ciphertext deciphered, flipped or not.
+-- Payloads: the lengths of their pieces, and the ciphertext deciphered, flipped or not.
 -- Assumes nothing.
-use mathlib.Core.Path.{_≡_, refl, sym, ap, ap₂, _∙_, subst}
+use mathlib.Core.Path.{_≡_, refl, sym, ap, ap₂, _∙_}
 use mathlib.Core.Bool.{Bool, true, false}
-use mathlib.Core.List.{List, [], _++_, append-nil}
-use Prim.Native.Nat.{ℕ, _+_, _-_, _*_, _≤_, _<_}
+use mathlib.Core.List.{List}
+use Prim.Native.Nat.{ℕ, _+_, _*_}
 use native.Mathlib.Omega.{arith}
-use borrow.Author.Tests.{ltb-true, ltb-false, lt-ltb, le-ltb}
-use lib.Dec.{ltb}
-use lib.ListN.{length, take, drop, length-append, take-append-drop, length-drop}
-use lib.Seq.{take-at, drop-at}
+use lib.ListN.{length, length-append}
 use Rattle.bits.specs.Bytes.{Bytes}
 use Rattle.bits.proofs.Flip.{Flips}
-use Rattle.bits.proofs.Packing.{Bytes-take, Bytes-drop}
 use Rattle.machine.specs.declared.edition.Edition.{Edition}
 use Rattle.machine.specs.Machine.{encipher, decipher}
 use Rattle.machine.proofs.Machine.{run-generator}
@@ -22,66 +18,9 @@ use Rattle.startup.proofs.Order.{length-bitsIn, length-bytesIn, bytesIn-are-byt
 use Rattle.payload.specs.Sizes.{tagSize}
 use Rattle.lengths.specs.CodedLength.{codedLength}
 use Rattle.payload.specs.AuthenticatedString.{header}
-use Rattle.payload.specs.Payload.{begun, ciphertext, deciphered, tag, payload, ciphertextPart, tagPart}
-use Rattle.payload.specs.Laws.{Lengths, Parts}
+use Rattle.payload.specs.Payload.{begun, ciphertext, deciphered, tag, payload}
+use Rattle.payload.specs.Laws.{Lengths}
 use Rattle.payload.proofs.AuthenticatedString.{length-authenticated}
-
--- ---- the two parts of a sealed input
-
-pub ciphertextPart-is : (input : List ℕ) → tagSize ≤ length input → ciphertextPart input ≡ take (length input - tagSize) input
-unfolding ciphertextPart
-ciphertextPart-is input h = simp (le-ltb (length input) tagSize h)
-
-pub tagPart-is : (input : List ℕ) → tagSize ≤ length input → tagPart input ≡ drop (length input - tagSize) input
-unfolding tagPart
-tagPart-is input h = simp (le-ltb (length input) tagSize h)
-
-pub ciphertextPart-short : (input : List ℕ) → length input < tagSize → ciphertextPart input ≡ input
-unfolding ciphertextPart
-ciphertextPart-short input h = simp (lt-ltb (length input) tagSize h)
-
-pub tagPart-short : (input : List ℕ) → length input < tagSize → tagPart input ≡ []
-unfolding tagPart
-tagPart-short input h = simp (lt-ltb (length input) tagSize h)
-
-parts-join : (input : List ℕ) → ciphertextPart input ++ tagPart input ≡ input
-parts-join input = go (ltb (length input) tagSize) refl
-  where
-    go : (short : Bool) → ltb (length input) tagSize ≡ short → ciphertextPart input ++ tagPart input ≡ input
-    go true e = let h = ltb-true (length input) tagSize e in ap₂ _++_ (ciphertextPart-short input h) (tagPart-short input h) ∙ append-nil input
-    go false e = let h = ltb-false (length input) tagSize e in ap₂ _++_ (ciphertextPart-is input h) (tagPart-is input h) ∙ take-append-drop (length input - tagSize) input
-
-pub parts : (input : List ℕ) → Parts input
-parts input = record {
-  together = parts-join input;
-  lengths = sym (length-append (ciphertextPart input) (tagPart input)) ∙ ap length (parts-join input);
-  before = ap (take size) (sym (parts-join input)) ∙ take-at (ciphertextPart input) (tagPart input) size refl;
-  behind = ap (drop size) (sym (parts-join input)) ∙ drop-at (ciphertextPart input) (tagPart input) size refl;
-  whole = λ h. ap length (tagPart-is input h) ∙ omega (arith, length-drop (length input - tagSize) input);
-  short = tagPart-short input;
-}
-  where
-    size : ℕ
-    size = length (ciphertextPart input)
-
-pub length-ciphertextPart : (input : List ℕ) → tagSize ≤ length input → length (ciphertextPart input) ≡ length input - tagSize
-length-ciphertextPart input h = omega (arith, parts input .lengths, parts input .whole h)
-
-module _ (c t : List ℕ) (sized : length t ≡ tagSize) where
-  joined-length : length c ≡ length (c ++ t) - tagSize
-  joined-length = omega (arith, length-append c t)
-
-  pub ciphertextPart-joined : ciphertextPart (c ++ t) ≡ c
-  ciphertextPart-joined = ciphertextPart-is (c ++ t) (omega (arith, length-append c t)) ∙ take-at c t (length (c ++ t) - tagSize) joined-length
-
-  pub tagPart-joined : tagPart (c ++ t) ≡ t
-  tagPart-joined = tagPart-is (c ++ t) (omega (arith, length-append c t)) ∙ drop-at c t (length (c ++ t) - tagSize) joined-length
-
-pub ciphertextPart-bytes : (input : List ℕ) → Bytes input → Bytes (ciphertextPart input)
-ciphertextPart-bytes input b = subst Bytes (parts input .before) (Bytes-take (length (ciphertextPart input)) input b)
-
-pub tagPart-bytes : (input : List ℕ) → Bytes input → Bytes (tagPart input)
-tagPart-bytes input b = subst Bytes (parts input .behind) (Bytes-drop (length (ciphertextPart input)) input b)
 
 -- ---- lengths
 

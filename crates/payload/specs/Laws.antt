@@ -4,11 +4,12 @@ use mathlib.Core.Path.{_≡_}
 use mathlib.Core.Bool.{Bool, false}
 use mathlib.Core.List.{List, [], _∷_, _++_}
 use Prim.Native.Nat.{ℕ, _+_, _-_, _*_, _≤_, _<_}
-use lib.ListN.{length, take, drop, getD, replicate}
+use lib.ListN.{length, getD, replicate}
 use Rattle.bits.specs.Bytes.{Bytes}
 use Rattle.bits.specs.Bit.{_⊻_}
 use Rattle.bits.specs.Strings.{_⊞_, shift}
 use Rattle.bits.specs.Times.{inTurn}
+use Rattle.tagged.specs.Payload as tagged
 use Rattle.preoutput.specs.Algebra.{single}
 use Rattle.preoutput.specs.Generator.{Generator, plain}
 use Rattle.authenticator.specs.ClosedForm.{registersAt}
@@ -24,7 +25,7 @@ use Rattle.payload.specs.Sizes.{tagSize}
 use Rattle.lengths.specs.CodedLength.{codedLength}
 use Rattle.payload.specs.AuthenticatedString.{header, authenticated}
 use Rattle.payload.specs.Job.{stringBits, jobClocks}
-use Rattle.payload.specs.Payload.{ciphertext, tag, payload, ciphertextPart, tagPart}
+use Rattle.payload.specs.Payload.{ciphertext, tag, payload}
 
 pub record Lengths (e : Edition) (key nonce ad message : List ℕ) : Type 0 where
   pub string : length (authenticated e ad message) ≡ stringBits (length ad) (length message)
@@ -45,15 +46,9 @@ pub record Clocked (e : Edition) (key nonce ad message : List ℕ) : Type 0 wher
 abbrev pub JobGrows : Type 0
 JobGrows = (e : Edition) (a m a′ m′ : ℕ) → a ≤ a′ → m ≤ m′ → (stringBits a m ≤ stringBits a′ m′) × (jobClocks e a m ≤ jobClocks e a′ m′)
 
--- The two parts of a sealed input of any length. Put together they are the input, so together they are as long as it; the tag part begins
--- where the ciphertext part ends, and runs to the end. It is a whole tag, or empty where the input is too short to have one.
-pub record Parts (input : List ℕ) : Type 0 where
-  pub together : ciphertextPart input ++ tagPart input ≡ input
-  pub lengths : length (ciphertextPart input) + length (tagPart input) ≡ length input
-  pub before : take (length (ciphertextPart input)) input ≡ ciphertextPart input
-  pub behind : drop (length (ciphertextPart input)) input ≡ tagPart input
-  pub whole : tagSize ≤ length input → length (tagPart input) ≡ tagSize
-  pub short : length input < tagSize → tagPart input ≡ []
+-- The two parts of a sealed input of any length.
+abbrev pub Parts : (input : List ℕ) → Type 0
+Parts = tagged.Parts tagSize
 
 -- Pairs of AD and message, each AD with a length of two bytes at most, that make the same authenticated string are the same pair.
 abbrev pub Unambiguous : Type 0

@@ -1,9 +1,9 @@
 -- A sealed payload: the ciphertext, as long as the message, then the tag (document 01, "Bits, bytes and sizes").
-use mathlib.Core.Bool.{cond}
-use mathlib.Core.List.{List, [], _++_}
-use Prim.Native.Nat.{ℕ, _-_}
-use lib.Dec.{ltb}
-use lib.ListN.{length, take, drop}
+use mathlib.Core.List.{List, _++_}
+use Prim.Native.Nat.{ℕ}
+use lib.ListN.{length}
+use Rattle.tagged.specs.Cipher.{Cipher}
+use Rattle.tagged.specs.Payload as tagged
 use Rattle.machine.specs.declared.edition.Edition.{Edition}
 use Rattle.machine.specs.Machine.{State, run, encipher, decipher}
 use Rattle.startup.specs.Editions.{bitsIn, bytesIn, initialised}
@@ -30,8 +30,12 @@ payload e key nonce ad message = ciphertext e key nonce ad message ++ tag e key 
 
 -- The ciphertext part of a sealed input is all but its last 8 bytes, the tag part its last 8. Of an input of fewer than 8 bytes the
 -- ciphertext part is the whole input, and the tag part is empty (document 02, C-21).
-unfoldable pub ciphertextPart : (input : List ℕ) → List ℕ
-ciphertextPart input = cond (ltb (length input) tagSize) input (take (length input - tagSize) input)
+abbrev pub ciphertextPart : (input : List ℕ) → List ℕ
+ciphertextPart = tagged.ciphertextPart tagSize
 
-unfoldable pub tagPart : (input : List ℕ) → List ℕ
-tagPart input = cond (ltb (length input) tagSize) [] (drop (length input - tagSize) input)
+abbrev pub tagPart : (input : List ℕ) → List ℕ
+tagPart = tagged.tagPart tagSize
+
+-- The cipher under a key, a nonce and an AD.
+abbrev pub cipher : Edition → (key nonce ad : List ℕ) → Cipher
+cipher e key nonce ad = record { size = tagSize; ciphertext = ciphertext e key nonce ad; deciphered = deciphered e key nonce ad; tag = tag e key nonce ad }

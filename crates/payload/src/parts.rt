@@ -6,19 +6,12 @@ ghost use Rattle.payload.specs.Payload as payload;
 pub fn ciphertext_part(input: &[u8]) -> &[u8]
     ensures { λ r. ⌜ now r ≡ payload.ciphertextPart (now (input .entry)) ⌝ }
 {
-    let n = input.len();
-    let end = if n < 8 { n } else { n - 8 };
-    &input[..end]
+    tagged::ciphertext_part(input, 8)
 }
 
 // The last 8 bytes of a sealed input; of an input of fewer than 8 bytes, nothing.
 pub fn tag_part(input: &[u8]) -> &[u8]
     ensures { λ r. ⌜ now r ≡ payload.tagPart (now (input .entry)) ⌝ }
 {
-    let n = input.len();
-    if n < 8 {
-        return &input[..0];
-    }
-    let start = n - 8;
-    &input[start..]
+    tagged::tag_part(input, 8)
 }

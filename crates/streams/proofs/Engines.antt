@@ -4,11 +4,13 @@ use mathlib.Core.Path.{_≡_, refl, sym, ap, ap₂, _∙_}
 use mathlib.Core.Bool.{Bool, true, false, not}
 use mathlib.Core.List.{List, [], _∷_, _++_}
 use Prim.Native.Nat.{ℕ, _*_, _%_, _^_, _<_, _≤_}
+use lib.Dec.{lit≤}
 use lib.ListN.{length, take, drop}
 use lib.Seq.{take-all, length-take-le}
 use Rattle.bits.specs.Bytes.{Bytes, word, value, bits, bytes, same}
 use Rattle.bits.proofs.Packing.{same-equal, equal-same}
 use Rattle.bits.proofs.Word.{length-word}
+use Rattle.tagged.proofs.Entry.{same-number, same-tag}
 use Rattle.machine.specs.declared.edition.Edition.{Edition}
 use Rattle.machine.specs.declared.engine.Engine.{Engine}
 use Rattle.machine.specs.Machine.{run, decipher}
@@ -18,7 +20,6 @@ use Rattle.startup.proofs.Order.{length-bytesIn}
 use Rattle.strings.specs.Strings.{CryptsAll}
 use Rattle.lengths.specs.CodedLength.{codedLength}
 use Rattle.payload.proofs.Begun.{carried}
-use Rattle.grain128aead.proofs.Entry.{same-number, same-tag}
 use Rattle.stream_checks.specs.declared.counts.Kind.{Kind}
 use Rattle.stream_checks.specs.declared.counts.Kind.the-variants.{Sealing, Checking}
 use Rattle.stream_checks.specs.declared.counts.Counts.{Counts}
@@ -80,12 +81,12 @@ module _ (x : Session) (r : ℕ) (computed : bytes 8 (word 64 r) ≡ bytesIn (x 
   module _ (tag : List ℕ) (n : ℕ) (eight : length tag ≡ 8) (isBytes : Bytes tag) (small : r < 2 ^ 64) (spelled : n ≡ value (bits tag) % 2 ^ 64) where
     pub tag-same : r ≡ n → not (same tag (tagOf (streamOf x))) ≡ false
     tag-same e =
-        ap (λ (t : List ℕ). not (same t (tagOf (streamOf x)))) (same-number tag (word 64 r) r n eight isBytes (length-word 64 r) small spelled refl e ∙ tagged)
+        ap (λ (t : List ℕ). not (same t (tagOf (streamOf x)))) (same-number 8 tag (word 64 r) r n (lit≤ tt) eight isBytes (length-word 64 r) small spelled refl e ∙ tagged)
         ∙ ap not (equal-same (tagOf (streamOf x)))
 
     pub tag-differs : (r ≡ n → ⊥) → not (same tag (tagOf (streamOf x))) ≡ true
     tag-differs differs = go (same tag (tagOf (streamOf x))) refl
       where
         go : (b : Bool) → same tag (tagOf (streamOf x)) ≡ b → not b ≡ true
-        go true h = absurd (differs (same-tag tag (word 64 r) r n eight isBytes (length-word 64 r) small spelled refl (same-equal tag (tagOf (streamOf x)) h ∙ sym tagged)))
+        go true h = absurd (differs (same-tag 8 tag (word 64 r) r n (lit≤ tt) eight isBytes (length-word 64 r) small spelled refl (same-equal tag (tagOf (streamOf x)) h ∙ sym tagged)))
         go false h = refl

@@ -20,11 +20,12 @@ use Rattle.refusals.specs.declared.Answer.the-variants.{Refused}
 use Rattle.refusals.specs.Refusals.{after}
 use Rattle.refusals.specs.Outcome.{Outcome, success, refused}
 use Rattle.refusals.proofs.Demand1.{count-not-refused}
+use Rattle.tagged.proofs.Parts.{ciphertextPart-joined, tagPart-joined}
 use Rattle.payload.specs.Sizes.{tagSize}
 use Rattle.payload.specs.Payload.{deciphered, tag, payload, ciphertextPart}
-use Rattle.payload.proofs.Payload.{ciphertextPart-joined, tagPart-joined, length-tag}
+use Rattle.payload.proofs.Payload.{length-tag}
 use Rattle.grain128aead.specs.Sizes.{messageLimit}
-use Rattle.grain128aead.specs.Calls.{sealed, recovered, tagDiffers, opened}
+use Rattle.grain128aead.specs.Calls.{sealed, opened}
 use Rattle.grain128aead.specs.Demand2 as whole
 use Rattle.grain128aead.proofs.Demand2.{sealing, legal-in-order, opening-tag}
 use Rattle.stream_checks.specs.declared.counts.Kind.{Kind}
@@ -66,15 +67,14 @@ module _ (h : History) (k : Kept h) (full : length (h .ad) ≡ h .announced) whe
   opened-by : h .kind ≡ Checking → (given out : List ℕ) → length given ≡ tagSize → length (h .text) ≤ length out
       → opened (h .edition) (h .key) (h .nonce) (h .ad) (h .text ++ given) out
       ≡ cond (not (same given (tag (h .edition) (h .key) (h .nonce) (h .ad) (message h)))) (refused TagDiffers out) (success (message h) out)
-  unfolding recovered tagDiffers
   opened-by kind given out eight room =
       opening-tag (h .edition) (h .key) (h .nonce) (h .ad) (h .text ++ given) out
       (legal-in-order (h .edition) (h .key) (h .nonce) (h .ad) (h .text ++ given) out (h .text) legal-whole (length-append (h .text) given ∙ ap (λ (n : ℕ). length (h .text) + n) eight) room)
-      ∙ ap₂ (λ (t m : List ℕ). cond (not (same t (tag (h .edition) (h .key) (h .nonce) (h .ad) m))) (refused TagDiffers out) (success m out)) (tagPart-joined (h .text) given eight) hidden
+      ∙ ap₂ (λ (t m : List ℕ). cond (not (same t (tag (h .edition) (h .key) (h .nonce) (h .ad) m))) (refused TagDiffers out) (success m out)) (tagPart-joined tagSize (h .text) given eight) hidden
     where
       hidden : deciphered (h .edition) (h .key) (h .nonce) (h .ad) (ciphertextPart (h .text ++ given)) ≡ message h
       hidden =
-          ap (deciphered (h .edition) (h .key) (h .nonce) (h .ad)) (ciphertextPart-joined (h .text) given eight)
+          ap (deciphered (h .edition) (h .key) (h .nonce) (h .ad)) (ciphertextPart-joined tagSize (h .text) given eight)
           ∙ sym (ap (λ (q : Kind). cond (isSealing q) (h .text) (deciphered (h .edition) (h .key) (h .nonce) (h .ad) (h .text))) kind)
 
   opened-whole : h .kind ≡ Checking → h .ended ≡ true → (out : List ℕ) → length (h .text) ≤ length out

@@ -44,16 +44,17 @@ module _ (c : Cipher) (sound : Sound c) where
     pub length-authentic : Authentic c input → length input ≡ length (recovered c input) + c .size
     length-authentic authentic = length-recovered (ap length authentic ∙ sound .lengthTag (recovered c input))
 
-    -- What a message makes hides that message, and is authentic.
+    -- What a message makes has that message's tag, hides that message, and is authentic.
+    pub makes-tag : (m : List ℕ) → payload c m ≡ input → tagPart (c .size) input ≡ c .tag m
+    makes-tag m made = ap (tagPart (c .size)) (sym made) ∙ tagPart-joined (c .size) (c .ciphertext m) (c .tag m) (sound .lengthTag m)
+
     pub makes-recovered : (m : List ℕ) → Bytes m → payload c m ≡ input → recovered c input ≡ m
     makes-recovered m b made =
         ap (c .deciphered) (ap (ciphertextPart (c .size)) (sym made) ∙ ciphertextPart-joined (c .size) (c .ciphertext m) (c .tag m) (sound .lengthTag m))
         ∙ sound .back m b
 
     pub makes-authentic : (m : List ℕ) → Bytes m → payload c m ≡ input → Authentic c input
-    makes-authentic m b made =
-        ap (tagPart (c .size)) (sym made) ∙ tagPart-joined (c .size) (c .ciphertext m) (c .tag m) (sound .lengthTag m)
-        ∙ ap (c .tag) (sym (makes-recovered m b made))
+    makes-authentic m b made = makes-tag m made ∙ ap (c .tag) (sym (makes-recovered m b made))
 
     -- An authentic input is made by the message that it hides.
     pub authentic-makes : Bytes input → Authentic c input → payload c (recovered c input) ≡ input

@@ -10,7 +10,7 @@ use mir.ValLaws.{toZ-pos}
 use borrow.Author.Needs.{needs}
 use lib.ListN.{length}
 use Rattle.payload.specs.Payload.{ciphertextPart}
-use Rattle.payload.proofs.Payload.{parts}
+use Rattle.payload.proofs.Sound.{parts}
 use Rattle.capi.proofs.tikhoplav_ciphertext_size.Statement.{statement}
 use Rattle.capi.proofs.tikhoplav_ciphertext_size.Tie as tie
 

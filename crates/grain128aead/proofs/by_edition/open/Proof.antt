@@ -24,8 +24,8 @@ use Rattle.grain128aead.specs.Substitution.{Substitution}
 use Rattle.grain128aead.proofs.Demand2.{demand1-opening, demand2}
 use Rattle.grain128aead.proofs.Demand3.{demand3}
 use Rattle.grain128aead.proofs.Substitution.{substitution}
-use Rattle.grain128aead.proofs.Entry.{openingJudgement, OpenChecked, Compared, open-failed, open-clear, open-reaches, open-passed, open-differs}
-use Rattle.grain128aead.proofs.Settled.{judgement}
+use Rattle.grain128aead.proofs.Entry.{OpenChecked, Compared, open-failed, open-clear, open-reaches, open-passed, open-differs}
+use Rattle.grain128aead.proofs.Settled.{judgement, openingJudgement}
 use Rattle.grain128aead.proofs.by_edition.open.Statement.{statement}
 use Rattle.grain128aead.proofs.by_edition.open.Tie as tie
 
