@@ -14,20 +14,21 @@ use Rattle.bits.proofs.Spelling.{bytes-word-cons}
 use Rattle.refusals.specs.declared.Check.{Check}
 use Rattle.refusals.specs.declared.Check.the-variants.{Passed, Failed}
 use Rattle.refusals.specs.declared.Refusal.{Refusal}
-use Rattle.refusals.specs.declared.Refusal.the-variants.{TagDiffers}
 use Rattle.refusals.specs.declared.Answer.{Answer}
 use Rattle.refusals.specs.declared.Answer.the-variants.{Count, Refused}
-use Rattle.refusals.specs.Refusals.{among, after, check}
+use Rattle.refusals.specs.Refusals.{among, check}
 use Rattle.refusals.specs.Outcome.{Outcome, outcome, settled, judged}
 use Rattle.refusals.proofs.Demand1.{decides}
+use Rattle.tagged.proofs.Entry.{open-failed}
 use Rattle.checks.proofs.Demand1.{none-at-all}
 use Rattle.machine.specs.declared.edition.Edition.{Edition}
 use Rattle.payload.specs.Payload.{payload}
+use Rattle.payload.specs.Payload as payloads
 use Rattle.payload.proofs.Payload.{length-payload}
 use Rattle.grain128aead.specs.Calls as cipher
 use Rattle.grain128aead.proofs.Demand2.{sealing}
 use Rattle.length_codes.specs.LengthCodes.{codedLength}
-use Rattle.frame_checks.specs.Layout.{fieldCode, fieldSize, announced}
+use Rattle.frame_checks.specs.Layout.{fieldCode, fieldSize, announced, sealedPart}
 use Rattle.frame_checks.specs.Order as order
 use Rattle.frame_checks.proofs.FieldCodes.{fieldCodes}
 use Rattle.frame_checks.proofs.Rows.{MakingClear, making-clear, ReadingClear, tabled}
@@ -156,10 +157,8 @@ pub record ReadChecked (key nonce : List ℕ) (identifier code : ℕ) (field len
 
 module _ {key nonce : List ℕ} {identifier code : ℕ} {field lent : List ℕ} {c : Check} (checks : ReadChecked key nonce identifier code field lent c) where
   pub read-failed : (e : Edition) {r : Refusal} → c ≡ Failed r → outcome (Refused r) lent ≡ read e key nonce identifier code field lent
-  unfolding settled
-  read-failed e h =
-      sym (read-settled e key nonce identifier code field lent
-      ∙ ap (λ (d : Check). settled (after d TagDiffers (wrongTag e key nonce identifier code field)) (recovered e key nonce identifier code field) lent) (sym (checks .checked) ∙ h))
+  unfolding wrongTag recovered
+  read-failed e h = open-failed (payloads.cipher e key nonce (frameAd identifier code)) (sealedPart field) lent _ _ (read-settled e key nonce identifier code field lent) (sym (checks .checked) ∙ h)
 
   module _ (passed : c ≡ Passed) where
     read-clear : ReadingClear key nonce identifier code field (length lent) false

@@ -15,9 +15,11 @@ use Rattle.refusals.specs.declared.Check.the-variants.{Passed, Failed}
 use Rattle.refusals.specs.Refusals.{among, after, check}
 use Rattle.refusals.specs.Outcome.{Outcome, settled, refused, success, judged}
 use Rattle.refusals.proofs.Demand1.{decides}
-use Rattle.refusals.proofs.LastRow.{after-false, check-last, settled-last}
+use Rattle.refusals.proofs.LastRow.{after-false, check-last}
+use Rattle.tagged.proofs.Opening as anyOpening
 use Rattle.checks.proofs.Demand1.{none-at-all}
 use Rattle.machine.specs.declared.edition.Edition.{Edition}
+use Rattle.payload.specs.Payload.{cipher}
 use Rattle.grain128aead.specs.Calls.{opened}
 use Rattle.grain128aead.proofs.Demand2.{InOrder, opening-tag}
 use Rattle.length_codes.specs.LengthCodes.{codedLength}
@@ -81,10 +83,8 @@ module _ (e : Edition) (key nonce : List ℕ) (identifier code : ℕ) (field out
   module _ (clear : ReadingClear key nonce identifier code field (length out) false) where
     -- Only the tag's row is left.
     pub read-tag : read e key nonce identifier code field out ≡ cond (wrongTag e key nonce identifier code field) (refused TagDiffers out) (success (recovered e key nonce identifier code field) out)
-    read-tag =
-        read-settled
-        ∙ ap (λ (c : Check). settled (after c TagDiffers (wrongTag e key nonce identifier code field)) (recovered e key nonce identifier code field) out) (clear-passed key nonce identifier code field (length out) clear)
-        ∙ settled-last TagDiffers (wrongTag e key nonce identifier code field) (recovered e key nonce identifier code field) out
+    unfolding wrongTag recovered
+    read-tag = anyOpening.opening-tag (cipher e key nonce (frameAd identifier code)) (sealedPart field) out _ _ read-settled (clear-passed key nonce identifier code field (length out) clear)
 
     in-order : InOrder e key nonce (frameAd identifier code) (sealedPart field) out
     in-order =
