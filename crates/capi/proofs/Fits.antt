@@ -1,4 +1,4 @@
--- The counts of sealing and opening, and of making and reading a frame, fit a signed number.
+-- The counts of sealing and opening, of adding a keystream, and of making and reading a frame, fit a signed number.
 -- Assumes nothing.
 use mathlib.Core.Path.{_≡_, refl, subst}
 use mathlib.Core.Bool.{Bool, true, false}
@@ -16,8 +16,12 @@ use Rattle.startup.specs.Naming.{known}
 use Rattle.startup.proofs.Naming.{names}
 use Rattle.payload.specs.Payload.{payload}
 use Rattle.payload.proofs.Payload.{length-payload}
-use Rattle.grain128aead.specs.Sizes.{messageLimit}
+use Rattle.limits.specs.Limits.{messageLimit}
 use Rattle.grain128aead.specs.Demand2.{Sealing, Demand2}
+use Rattle.grain128a.specs.Payload.{withKeystream}
+use Rattle.grain128a.specs.Payload as tagged
+use Rattle.grain128a.specs.Demand2 as grain128a
+use Rattle.grain128a.proofs.Payload.{lengths}
 use Rattle.named_edition.specs.Calls.{InNamed}
 use Rattle.frame_checks.proofs.FieldCodes.{fieldCodes}
 use Rattle.frames.specs.Field.{dataField}
@@ -46,6 +50,19 @@ make-fits e key nonce identifier message out o s =
 pub read-fits : (e : Edition) (key nonce : List ℕ) (identifier code : ℕ) (field out : List ℕ) (o : Outcome) → frames.Demand2 e key nonce identifier code field out o → capped (o .answer) ≡ o .answer
 read-fits e key nonce identifier code field out o d =
     outcome-fits o (λ a. let h = d .accepts .0 a in (h .0, out, d .returns (h .0) (h .1) (h .2), omega (arith, h .1 .legal .messageFits)))
+
+-- With a tag of w bits, which is legal where a call accepts, and without one.
+pub tagged-seal-fits : (w : ℕ) (key nonce message out : List ℕ) (o : Outcome) → grain128a.Sealing w key nonce message out o → capped (o .answer) ≡ o .answer
+tagged-seal-fits w key nonce message out o s =
+    outcome-fits o (λ a. let h = s .accepts .0 a in (tagged.payload w key nonce message, out, s .seals (h .0) (h .1), omega (arith, limit-small, h .0 .messageFits, h .0 .tagFits, lengths w key nonce message .payload)))
+
+pub tagged-open-fits : (w : ℕ) (key nonce input out : List ℕ) (o : Outcome) → grain128a.Demand2 w key nonce input out o → capped (o .answer) ≡ o .answer
+tagged-open-fits w key nonce input out o d =
+    outcome-fits o (λ a. let h = d .accepts .0 a in (h .0, out, d .returns (h .0) (h .1) (h .2), omega (arith, limit-small, h .1 .legal .messageFits)))
+
+pub crypt-fits : (key nonce message out : List ℕ) (o : Outcome) → grain128a.Crypting key nonce message out o → capped (o .answer) ≡ o .answer
+crypt-fits key nonce message out o s =
+    outcome-fits o (λ a. let h = s .accepts .0 a in (withKeystream key nonce message, out, s .crypts (h .0) (h .1), omega (arith, limit-small, h .0 .messageFits, lengths 0 key nonce message .withKeystream)))
 
 -- In the edition that a number names; where it names none, there is no count.
 pub named-fits : (n : ℕ) (out : List ℕ) (o : Outcome) → (known n ≡ false → refused UnknownEdition out ≡ o) → InNamed n (λ e. capped (o .answer) ≡ o .answer) → capped (o .answer) ≡ o .answer

@@ -1,6 +1,7 @@
 // The calls for C: plain numbers and byte slices. A success is a number from 0 on, refusal n is minus n.
 pub mod codes;
 pub mod framing;
+pub mod grain_128a;
 pub mod streaming;
 
 ghost use mathlib.Core.Path.{_≡_};

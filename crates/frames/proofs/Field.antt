@@ -9,7 +9,8 @@ use lib.ListN.{length, replicate, length-append, length-replicate}
 use Rattle.machine.specs.declared.edition.Edition.{Edition}
 use Rattle.payload.specs.Payload.{payload}
 use Rattle.payload.proofs.Payload.{length-payload}
-use Rattle.grain128aead.specs.Sizes.{adLimit, messageLimit}
+use Rattle.limits.specs.Limits.{messageLimit}
+use Rattle.grain128aead.specs.Sizes.{adLimit}
 use Rattle.grain128aead.specs.Demand2 as cipher
 use Rattle.length_codes.specs.LengthCodes.{codedLength}
 use Rattle.frame_checks.specs.Layout.{overhead, fieldCode, fieldSize, announced, sealedPart, filler}

@@ -20,7 +20,8 @@ use Rattle.tagged.proofs.Opening as anyOpening
 use Rattle.payload.specs.Sizes.{tagSize}
 use Rattle.payload.specs.Payload.{payload, cipher}
 use Rattle.payload.proofs.Sound.{sound}
-use Rattle.grain128aead.specs.Sizes.{adLimit, messageLimit}
+use Rattle.limits.specs.Limits.{messageLimit}
+use Rattle.grain128aead.specs.Sizes.{adLimit}
 use Rattle.checks.specs.Order.{order}
 use Rattle.grain128aead.specs.Calls.{sealingTable, sealingRow, sealed, recovered, openingTable, openingRow, opened, tagDiffers}
 use Rattle.checks.specs.Demand1.{Demand1}

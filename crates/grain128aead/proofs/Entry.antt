@@ -36,7 +36,8 @@ use Rattle.payload.specs.Payload.{begun, ciphertext, deciphered, tag, payload, 
 use Rattle.payload.proofs.Payload.{length-deciphered, deciphered-bits}
 use Rattle.payload.proofs.Sound.{sound, parts}
 use Rattle.payload.proofs.Begun.{begun-edition, after-edition}
-use Rattle.grain128aead.specs.Sizes.{adLimit, messageLimit}
+use Rattle.limits.specs.Limits.{messageLimit}
+use Rattle.grain128aead.specs.Sizes.{adLimit}
 use Rattle.grain128aead.specs.Calls.{sealed, recovered, opened}
 use Rattle.checks.proofs.Rows.{NoneApplies}
 use Rattle.grain128aead.proofs.Settled.{sealingJudgement, openingJudgement, passed-clear, sealed-settled, opened-settled}

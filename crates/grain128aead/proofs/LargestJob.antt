@@ -6,7 +6,8 @@ use Rattle.lengths.specs.CodedLength.{codedLength}
 use Rattle.payload.specs.Job.{stringBits, jobClocks}
 use Rattle.payload.proofs.AuthenticatedString.{length-authenticated}
 use Rattle.payload.proofs.Job.{job-grows}
-use Rattle.grain128aead.specs.Sizes.{adLimit, messageLimit}
+use Rattle.limits.specs.Limits.{messageLimit}
+use Rattle.grain128aead.specs.Sizes.{adLimit}
 use Rattle.grain128aead.specs.LargestJob.{LargestJob, Largest}
 
 pub largest-job : LargestJob

@@ -16,7 +16,8 @@ use Rattle.refusals.proofs.LastRow.{after-false, check-last}
 use Rattle.machine.specs.declared.edition.Edition.{Edition}
 use Rattle.payload.specs.Sizes.{tagSize}
 use Rattle.payload.specs.Payload.{payload}
-use Rattle.grain128aead.specs.Sizes.{adLimit, messageLimit}
+use Rattle.limits.specs.Limits.{messageLimit}
+use Rattle.grain128aead.specs.Sizes.{adLimit}
 use Rattle.checks.specs.Order.{beforeTag, order}
 use Rattle.checks.specs.Rows.{table, rows}
 use Rattle.checks.proofs.Demand1.{tabled, none-at-all}

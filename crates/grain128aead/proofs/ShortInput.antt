@@ -12,7 +12,7 @@ use Rattle.refusals.specs.Refusals.{after}
 use Rattle.refusals.specs.Outcome.{settled, judged}
 use Rattle.refusals.proofs.LastRow.{settled-earlier}
 use Rattle.payload.specs.Sizes.{tagSize}
-use Rattle.grain128aead.specs.Sizes.{messageLimit}
+use Rattle.limits.specs.Limits.{messageLimit}
 use Rattle.grain128aead.specs.Calls.{recovered, tagDiffers}
 use Rattle.grain128aead.specs.Demand1.{ShortInput}
 use Rattle.grain128aead.proofs.Settled.{judgement, openingJudgement, check-rows, passed-clear, opened-settled}

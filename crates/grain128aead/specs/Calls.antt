@@ -14,7 +14,8 @@ use Rattle.checks.specs.Rows.{table}
 use Rattle.machine.specs.declared.edition.Edition.{Edition}
 use Rattle.payload.specs.Sizes.{tagSize}
 use Rattle.payload.specs.Payload.{payload, cipher}
-use Rattle.grain128aead.specs.Sizes.{adLimit, messageLimit}
+use Rattle.limits.specs.Limits.{messageLimit}
+use Rattle.grain128aead.specs.Sizes.{adLimit}
 
 -- Rows 5 and 7 do not apply to sealing.
 abbrev pub sealingTable : (key nonce ad message out : List ℕ) → List Row

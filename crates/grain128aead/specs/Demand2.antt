@@ -11,7 +11,8 @@ use Rattle.key.specs.Sizes.{keySize, nonceSize}
 use Rattle.key.specs.BlankKey.{blankKey}
 use Rattle.payload.specs.Sizes.{tagSize}
 use Rattle.payload.specs.Payload.{payload}
-use Rattle.grain128aead.specs.Sizes.{adLimit, messageLimit}
+use Rattle.limits.specs.Limits.{messageLimit}
+use Rattle.grain128aead.specs.Sizes.{adLimit}
 
 -- What is legal at the entry points: all sizes, and every key but the blank one (document 02, C-18).
 pub record Legal (key nonce ad message : List ℕ) : Type 0 where

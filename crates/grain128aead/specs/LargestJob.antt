@@ -7,7 +7,8 @@ use Rattle.machine.specs.declared.edition.Edition.{Edition}
 use Rattle.machine.specs.declared.edition.Edition.the-variants.{First, Second}
 use Rattle.payload.specs.AuthenticatedString.{authenticated}
 use Rattle.payload.specs.Job.{stringBits, jobClocks}
-use Rattle.grain128aead.specs.Sizes.{adLimit, messageLimit}
+use Rattle.limits.specs.Limits.{messageLimit}
+use Rattle.grain128aead.specs.Sizes.{adLimit}
 use Rattle.grain128aead.specs.Demand2.{Legal}
 
 pub record LargestJob : Type 0 where

@@ -1,6 +1,6 @@
 // Grain-128AEAD: sealing and opening of whole byte strings. Where no edition is named, it is the first.
 pub mod by_edition;
-pub mod limits;
+pub mod sizes;
 
 ghost use mathlib.Core.Path.{_≡_};
 ghost use Rattle.refusals.specs.Outcome.{outcome};

@@ -15,7 +15,7 @@ use Rattle.refusals.specs.Refusals.{among, check}
 use Rattle.refusals.specs.Signed.{capped}
 use Rattle.refusals.specs.Demand1.{Decides}
 use Rattle.refusals.proofs.Demand1.{count-not-refused, decides}
-use Rattle.grain128aead.specs.Sizes.{messageLimit}
+use Rattle.limits.specs.Limits.{messageLimit}
 use Rattle.stream_state.specs.Layout.{read, sound}
 use Rattle.streams.specs.Calls.{Call, order, rows, next, produced, lent, Step, settled, called}
 use Rattle.streams.specs.Demand1.{Demand1}

@@ -33,7 +33,8 @@ use Rattle.payload.specs.AuthenticatedString.{header, authenticated}
 use Rattle.payload.specs.Payload.{begun, ciphertext, deciphered, tag}
 use Rattle.payload.proofs.Job.{job-grows}
 use Rattle.payload.proofs.Payload.{deciphered-bits, length-deciphered}
-use Rattle.grain128aead.specs.Sizes.{adLimit, messageLimit}
+use Rattle.limits.specs.Limits.{messageLimit}
+use Rattle.grain128aead.specs.Sizes.{adLimit}
 use Rattle.grain128aead.proofs.Entry.{tag-run}
 use Rattle.stream_checks.specs.declared.counts.Kind.{Kind}
 use Rattle.stream_checks.specs.declared.counts.Kind.the-variants.{Sealing, Checking}

@@ -24,7 +24,8 @@ use Rattle.key.specs.BlankKey.{blankKey, isBlank}
 use Rattle.key.proofs.BlankKey.{not-blank, unequal-not-blank}
 use Rattle.startup.specs.Naming.{known, named}
 use Rattle.payload.specs.Sizes.{tagSize}
-use Rattle.grain128aead.specs.Sizes.{adLimit, messageLimit}
+use Rattle.limits.specs.Limits.{messageLimit}
+use Rattle.grain128aead.specs.Sizes.{adLimit}
 use Rattle.stream_checks.specs.declared.counts.Kind.{Kind}
 use Rattle.stream_checks.specs.declared.counts.Kind.the-variants.{Sealing, Checking}
 use Rattle.stream_checks.specs.declared.counts.Counts.{Counts}

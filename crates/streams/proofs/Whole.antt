@@ -24,7 +24,7 @@ use Rattle.tagged.proofs.Parts.{ciphertextPart-joined, tagPart-joined}
 use Rattle.payload.specs.Sizes.{tagSize}
 use Rattle.payload.specs.Payload.{deciphered, tag, payload, ciphertextPart}
 use Rattle.payload.proofs.Payload.{length-tag}
-use Rattle.grain128aead.specs.Sizes.{messageLimit}
+use Rattle.limits.specs.Limits.{messageLimit}
 use Rattle.grain128aead.specs.Calls.{sealed, opened}
 use Rattle.grain128aead.specs.Demand2 as whole
 use Rattle.grain128aead.proofs.Demand2.{sealing, legal-in-order, opening-tag}

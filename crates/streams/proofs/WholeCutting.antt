@@ -10,7 +10,7 @@ use Rattle.refusals.specs.declared.Answer.{Answer}
 use Rattle.refusals.specs.Outcome.{success}
 use Rattle.startup.specs.Naming.{known}
 use Rattle.payload.specs.Sizes.{tagSize}
-use Rattle.grain128aead.specs.Sizes.{messageLimit}
+use Rattle.limits.specs.Limits.{messageLimit}
 use Rattle.grain128aead.specs.Calls.{sealed, opened}
 use Rattle.stream_checks.specs.declared.counts.Kind.{Kind}
 use Rattle.stream_checks.specs.declared.counts.Kind.the-variants.{Sealing, Checking}

@@ -9,7 +9,7 @@ use Rattle.refusals.specs.declared.Refusal.{Refusal}
 use Rattle.refusals.specs.declared.Answer.the-variants.{Count, Refused}
 use Rattle.refusals.specs.Refusals.{among}
 use Rattle.refusals.specs.Demand1.{First, Clear}
-use Rattle.grain128aead.specs.Sizes.{messageLimit}
+use Rattle.limits.specs.Limits.{messageLimit}
 use Rattle.stream_state.specs.Layout.{read, sound}
 use Rattle.streams.specs.Calls.{Call, Step, order, rows, next, produced, lent, accepted}
 

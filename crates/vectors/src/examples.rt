@@ -1,8 +1,8 @@
 // Document 01's examples that are not starred, at the limits of document 02 (C-14), and those of the blank key (C-18).
 use crate::tally;
 use crate::tally::Tally;
-use grain128aead::limits::AD_LIMIT;
-use grain128aead::limits::MESSAGE_LIMIT;
+use grain128aead::sizes::AD_LIMIT;
+use limits::MESSAGE_LIMIT;
 
 const KEY: [u8; 16] = [0x5a; 16];
 

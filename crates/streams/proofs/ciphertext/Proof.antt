@@ -3,7 +3,7 @@
 use mathlib.Core.Path.{_≡_, refl, sym, ap, _∙_}
 use borrow.Author.Needs.{needs}
 use lib.ListN.{length}
-use Rattle.grain128aead.specs.Sizes.{messageLimit}
+use Rattle.limits.specs.Limits.{messageLimit}
 use Rattle.stream_state.specs.declared.Session.{Session}
 use Rattle.stream_state.specs.Layout.{heldOf}
 use Rattle.streams.specs.Calls.{Ciphertext}

@@ -10,7 +10,7 @@ use lib.ListN.{length}
 use Rattle.bits.specs.Bytes.{Bytes}
 use Rattle.refusals.specs.declared.Check.the-variants.{Passed}
 use Rattle.payload.specs.Sizes.{tagSize}
-use Rattle.grain128aead.specs.Sizes.{messageLimit}
+use Rattle.limits.specs.Limits.{messageLimit}
 use Rattle.stream_state.specs.declared.Session.{Session}
 use Rattle.stream_state.specs.Stream.{streamOf}
 use Rattle.stream_state.specs.Layout.{heldOf}

@@ -14,7 +14,8 @@ use Rattle.refusals.specs.declared.Check.{Check}
 use Rattle.refusals.specs.Outcome.{Outcome}
 use Rattle.machine.specs.declared.edition.Edition.{Edition}
 use Rattle.payload.specs.Sizes.{tagSize}
-use Rattle.grain128aead.specs.Sizes.{adLimit, messageLimit}
+use Rattle.limits.specs.Limits.{messageLimit}
+use Rattle.grain128aead.specs.Sizes.{adLimit}
 use Rattle.checks.specs.Order.{order}
 use Rattle.grain128aead.specs.Calls.{openingRow, recovered, opened}
 use Rattle.checks.specs.Demand1.{Demand1}

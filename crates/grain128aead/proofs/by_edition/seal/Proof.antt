@@ -11,7 +11,8 @@ use Rattle.refusals.specs.Outcome.{Outcome}
 use Rattle.machine.specs.declared.edition.Edition.{Edition}
 use Rattle.payload.specs.Sizes.{tagSize}
 use Rattle.payload.specs.Payload.{payload}
-use Rattle.grain128aead.specs.Sizes.{adLimit, messageLimit}
+use Rattle.limits.specs.Limits.{messageLimit}
+use Rattle.grain128aead.specs.Sizes.{adLimit}
 use Rattle.checks.specs.Order.{order}
 use Rattle.grain128aead.specs.Calls.{sealingRow, sealed}
 use Rattle.checks.specs.Demand1.{Demand1}
