@@ -1,8 +1,10 @@
-//! An independent implementation of documents 01 and 02, of both editions: a byte for each register
-//! bit, and every bit moved at every clock.
+//! An independent implementation of documents 01 and 02, of both editions and of Grain-128a: a byte
+//! for each register bit, and every bit moved at every clock.
 
 #[path = "model/frames.rs"]
 pub mod frames;
+#[path = "model/grain128a.rs"]
+pub mod grain128a;
 #[path = "model/streams.rs"]
 pub mod streams;
 
