@@ -1,6 +1,7 @@
 /*
  * Tikhoplav: Grain-128AEAD, both editions. Sealing and opening of whole byte strings; the two parts of a sealed one;
- * sealed CAN FD frames, and payloads that arrive in pieces, each with a section of its own below.
+ * sealed CAN FD frames, and payloads that arrive in pieces, each with a section of its own below. Grain-128a, with and
+ * without authentication, has the last section, which says all that is different there.
  *
  * Sealing enciphers a message under a key and a nonce, and appends a tag over the message and its associated data
  * (AD). Opening recomputes the tag, and hands out the message only if the tag is right. The AD is authenticated and
@@ -55,6 +56,7 @@
  *     read, and may overlap one another.)
  *   - A nonce is never used for two sealings under one key. If it is, secrecy is lost, and no call can notice it.
  *     Making a frame is a sealing, and so is a sealing stream.
+ *   - A key is used with one cipher, Grain-128AEAD or Grain-128a.
  *   - The key is random and secret. Of the keys that can be guessed the calls notice one, 16 zero bytes (the blank
  *     key), and refuse it.
  *
@@ -63,10 +65,10 @@
  *
  * What a call answers
  *
- *   Sealing and opening, making and reading a frame: success is the count of bytes written, 0 or more. They stand at
- *   the front of `out`; every byte of `out` behind them is untouched. A refusal is one of the negative numbers below,
- *   and then every byte of `out` is as it was before the call. In particular a wrong tag hands out no bit of the
- *   message: nothing is written until the tag is known to be right.
+ *   Sealing and opening, making and reading a frame, the calls of Grain-128a: success is the count of bytes written, 0
+ *   or more. They stand at the front of `out`; every byte of `out` behind them is untouched. A refusal is one of the
+ *   negative numbers below, and then every byte of `out` is as it was before the call. In particular a wrong tag hands
+ *   out no bit of the message: nothing is written until the tag is known to be right.
  *
  *   The calls on streams: success is the clocks so far, 400 or more. A refusal is one of the negative numbers too, and
  *   then every byte of `state` and of `out` is as it was before the call.
@@ -103,6 +105,8 @@
  *   Versions before 3.4.0 have no streams. What a sealing stream gives, ciphertext and tag, is a sealed payload like
  *   any other: they open it, under an edition that they have.
  *
+ *   Versions before 3.5.0 have no Grain-128a. What this one seals with it they don't open.
+ *
  * What is not promised
  *
  *   How long a call takes. It grows with the lengths, and opening goes over the ciphertext twice; the tag is made by
@@ -137,7 +141,7 @@
 extern "C" {
 #endif
 
-#define TIKHOPLAV_VERSION "3.4.0"
+#define TIKHOPLAV_VERSION "3.5.0"
 
 /* The editions: Grain-128AEAD and Grain-128AEADv2. */
 #define TIKHOPLAV_EDITION_1 1
@@ -159,8 +163,8 @@ extern "C" {
  * applies is the answer: a call with a short key and a long nonce answers -1, one with a blank key and too long an AD
  * answers -15, and an output that is too short answers -6 even where the tag is wrong too. An unknown edition answers
  * -23 whatever else is wrong. Making and reading a frame have some of these too, and five of their own; the calls on
- * streams have some, and two of their own. The sections on frames and on streams have theirs, in the order of their
- * checks.
+ * streams have some, and two of their own; the calls of Grain-128a have some, with the sizes of its own tags, and two
+ * of their own. The sections on frames, on streams and on Grain-128a have theirs, in the order of their checks.
  */
 
 /* The calls that name an edition only: it is neither TIKHOPLAV_EDITION_1 nor TIKHOPLAV_EDITION_2. */
@@ -741,6 +745,166 @@ int64_t tikhoplav_checking_ciphertext(uint8_t *state, size_t state_len, const ui
  * UNSOUND_STATE, OUT_OF_TURN, SEALED_TOO_SHORT (if tag_len is not TIKHOPLAV_TAG_SIZE), TAG_DIFFERS.
  */
 int64_t tikhoplav_checking_finish(uint8_t *state, size_t state_len, const uint8_t *tag, size_t tag_len);
+
+/*
+ * Grain-128a
+ *
+ *   The cipher of the paper "Grain-128a: A New Version of Grain-128 with Optional Authentication" (2011), in both of
+ *   its modes. Keys have TIKHOPLAV_KEY_SIZE bytes and nonces (the paper says IV) TIKHOPLAV_NONCE_SIZE, as above. There
+ *   is no AD, and there are no editions. The bits of every byte go from the top bit down.
+ *
+ *     mode                     bit 0 of the nonce   call                        takes                writes
+ *     with authentication      1                    tikhoplav_grain128a_seal    message              ciphertext and tag
+ *                                                   tikhoplav_grain128a_open    ciphertext and tag   message
+ *     without authentication   0                    tikhoplav_grain128a_crypt   message              ciphertext
+ *                                                                               ciphertext           message
+ *
+ *   Bit 0 of the nonce is the top bit of its first byte: `nonce[0] |= 0x80` makes it 1, and `nonce[0] &= 0x7f` makes it
+ *   0. The paper has each mode for these nonces alone, and a call refuses the nonces of the other mode. The 95 bits
+ *   that remain are the caller's.
+ *
+ *   The two ciphers don't open one another: opening a payload of the other is like opening under a wrong key. Frames,
+ *   streams and tikhoplav_ciphertext_size are Grain-128AEAD's alone.
+ *
+ * With authentication
+ *
+ *     sealed payload = ciphertext (as long as the message), then the tag (TIKHOPLAV_GRAIN128A_TAG_SIZE(tag_bits) bytes)
+ *
+ *   A tag has tag_bits bits, 1 to 32, and stands in as many whole bytes as hold them:
+ *
+ *     tag_bits            1 to 8   9 to 16   17 to 24   25 to 32
+ *     bytes of the tag         1         2          3          4
+ *
+ *   Its first bit is the top bit of its first byte. The bits that remain of the last byte, below the tag's last bit,
+ *   are zero; opening refuses a payload in which one of them is set, as it refuses a wrong tag. A tag of fewer bits is
+ *   the last bits of the one of 32, and the ciphertext is the same whatever tag_bits is. So the empty message under the
+ *   key 01 23 45 67 89 ab cd ef 12 34 56 78 9a bc de f0 and the nonce 81 23 45 67 89 ab cd ef 12 34 56 78 has the tag
+ *   d2 d1 bd a8 of 32 bits, and the tag da 80 of 12.
+ *
+ *   Nothing in a payload tells how many bits its tag has: both sides have to agree on it beforehand. Under another
+ *   number of bits a payload is refused, except by chance. How likely chance is goes by the tag: whoever makes up a
+ *   payload finds a tag of n bits in one of 2 to the power of n tries, so one of 8 bits in 256, and one of 1 bit in 2.
+ *   Take 32 bits where nothing forbids it.
+ *
+ * Without authentication
+ *
+ *   tikhoplav_grain128a_crypt adds the keystream to a message. The same call, with the same key and nonce, on what it
+ *   wrote gives the message back, so it both enciphers and deciphers. Nothing is checked: a bit that is changed in the
+ *   ciphertext is the same bit changed in the message, and a wrong key or nonce gives other bytes and no refusal.
+ *
+ * What the calls of Grain-128a refuse
+ *
+ *   The checks run in this order, and the first that applies is the answer.
+ *
+ *     sealing                opening                crypt
+ *     KEY_SIZE          -1   KEY_SIZE          -1   KEY_SIZE          -1
+ *     NONCE_SIZE        -2   NONCE_SIZE        -2   NONCE_SIZE        -2
+ *     BLANK_KEY        -15   BLANK_KEY        -15   BLANK_KEY        -15
+ *     NONCE_MODE       -19   NONCE_MODE       -19   NONCE_MODE       -19
+ *     TAG_LENGTH       -20   TAG_LENGTH       -20
+ *     MESSAGE_TOO_LONG  -4   MESSAGE_TOO_LONG  -4   MESSAGE_TOO_LONG  -4
+ *                            SEALED_TOO_SHORT  -5
+ *     OUTPUT_TOO_SHORT  -6   OUTPUT_TOO_SHORT  -6   OUTPUT_TOO_SHORT  -6
+ *                            TAG_DIFFERS       -7
+ *
+ *   With T for TIKHOPLAV_GRAIN128A_TAG_SIZE(tag_bits): MESSAGE_TOO_LONG is a message_len over TIKHOPLAV_MESSAGE_MAX, or
+ *   a sealed_len over TIKHOPLAV_MESSAGE_MAX + T. SEALED_TOO_SHORT is a sealed_len under T. OUTPUT_TOO_SHORT is an
+ *   out_len under message_len + T (sealing), sealed_len - T (opening) or message_len (crypt). TAG_DIFFERS is a tag that
+ *   is not the one that key, nonce and ciphertext give, or a set bit past its length.
+ *
+ * What the caller owes for Grain-128a
+ *
+ *   - All that is owed for sealing and opening.
+ *   - A nonce is never used for two messages under one key. To use it again with crypt for the message that it was used
+ *     for, or to open, is no second use. (A nonce of one mode is never one of the other.)
+ *   - A key of Grain-128a is not used with Grain-128AEAD, in either edition, nor the other way round: the two ciphers
+ *     load their registers alike, and what one gives away can be what the other has to hide.
+ *   - Whoever may have payloads opened as often as they like finds a short tag by trying. No call counts refusals.
+ *
+ * A whole program that seals and opens with Grain-128a (a real key is random and secret)
+ *
+ *     #include <stdio.h>
+ *     #include <tikhoplav.h>
+ *
+ *     int main(void)
+ *     {
+ *         static const uint8_t key[TIKHOPLAV_KEY_SIZE] = "no real key", message[] = "2400 rpm";
+ *         enum { TAG_BITS = 32, TAG_SIZE = TIKHOPLAV_GRAIN128A_TAG_SIZE(TAG_BITS) };
+ *         uint8_t nonce[TIKHOPLAV_NONCE_SIZE] = "never twice";
+ *         uint8_t sealed[sizeof message + TAG_SIZE], opened[sizeof message], in_secret[sizeof message];
+ *         int64_t n;
+ *         nonce[0] |= 0x80; // with authentication
+ *         n = tikhoplav_grain128a_seal(key, sizeof key, nonce, sizeof nonce, TAG_BITS,
+ *                                      message, sizeof message, sealed, sizeof sealed);
+ *         if (n >= 0)
+ *             n = tikhoplav_grain128a_open(key, sizeof key, nonce, sizeof nonce, TAG_BITS,
+ *                                          sealed, (size_t)n, opened, sizeof opened);
+ *
+ *         nonce[0] &= 0x7f; // without authentication
+ *         if (n >= 0)
+ *             n = tikhoplav_grain128a_crypt(key, sizeof key, nonce, sizeof nonce,
+ *                                           opened, sizeof opened, in_secret, sizeof in_secret);
+ *         if (n >= 0)
+ *             n = tikhoplav_grain128a_crypt(key, sizeof key, nonce, sizeof nonce,
+ *                                           in_secret, sizeof in_secret, opened, sizeof opened);
+ *         return n < 0 ? (int)-n : puts((const char *)opened) == EOF;
+ *     }
+ */
+
+/* The most bits of a tag of Grain-128a, and the bytes that a tag of 1 to as many bits takes. */
+#define TIKHOPLAV_GRAIN128A_TAG_BITS_MAX 32
+#define TIKHOPLAV_GRAIN128A_TAG_SIZE(tag_bits) (((tag_bits) + 7) / 8)
+
+/* Bit 0 of the nonce, the top bit of its first byte, is that of the other mode: sealing and opening have nonces where
+   it is 1, crypt has those where it is 0. */
+#define TIKHOPLAV_REFUSED_NONCE_MODE (-19)
+
+/* Sealing and opening: tag_bits is 0, or over TIKHOPLAV_GRAIN128A_TAG_BITS_MAX. */
+#define TIKHOPLAV_REFUSED_TAG_LENGTH (-20)
+
+/*
+ * Seals message[0 .. message_len - 1] with Grain-128a, with a tag of tag_bits bits. Bit 0 of the nonce is 1.
+ *
+ * Writes the ciphertext to out[0 .. message_len - 1], the tag to the TIKHOPLAV_GRAIN128A_TAG_SIZE(tag_bits) bytes after
+ * it, and answers message_len + TIKHOPLAV_GRAIN128A_TAG_SIZE(tag_bits). Whenever the sizes are legal, the key is not
+ * blank, bit 0 of the nonce is 1, tag_bits is 1 to TIKHOPLAV_GRAIN128A_TAG_BITS_MAX and out_len is at least that, it
+ * succeeds.
+ *
+ * Otherwise it answers the first of these that applies, and writes nothing:
+ * KEY_SIZE, NONCE_SIZE, BLANK_KEY, NONCE_MODE, TAG_LENGTH, MESSAGE_TOO_LONG, OUTPUT_TOO_SHORT.
+ */
+int64_t tikhoplav_grain128a_seal(const uint8_t *key, size_t key_len, const uint8_t *nonce, size_t nonce_len,
+                                 uint32_t tag_bits, const uint8_t *message, size_t message_len,
+                                 uint8_t *out, size_t out_len);
+
+/*
+ * Opens sealed[0 .. sealed_len - 1], which was sealed with Grain-128a and a tag of tag_bits bits: a ciphertext, whose
+ * last TIKHOPLAV_GRAIN128A_TAG_SIZE(tag_bits) bytes are its tag. Bit 0 of the nonce is 1.
+ *
+ * If the tag is right, and the bits past its length are zero, writes the message to the front of `out` and answers its
+ * length, sealed_len - TIKHOPLAV_GRAIN128A_TAG_SIZE(tag_bits), which is 0 for an empty message.
+ *
+ * Otherwise it answers the first of these that applies, and writes nothing:
+ * KEY_SIZE, NONCE_SIZE, BLANK_KEY, NONCE_MODE, TAG_LENGTH, MESSAGE_TOO_LONG, SEALED_TOO_SHORT, OUTPUT_TOO_SHORT,
+ * TAG_DIFFERS.
+ */
+int64_t tikhoplav_grain128a_open(const uint8_t *key, size_t key_len, const uint8_t *nonce, size_t nonce_len,
+                                 uint32_t tag_bits, const uint8_t *sealed, size_t sealed_len,
+                                 uint8_t *out, size_t out_len);
+
+/*
+ * Enciphers message[0 .. message_len - 1] with Grain-128a without authentication, or deciphers it, which is the same.
+ * Bit 0 of the nonce is 0.
+ *
+ * Writes message_len bytes to the front of `out`, the message with the keystream added, and answers message_len, which
+ * is 0 for an empty message. Whenever the sizes are legal, the key is not blank, bit 0 of the nonce is 0 and out_len is
+ * at least message_len, it succeeds.
+ *
+ * Otherwise it answers the first of these that applies, and writes nothing:
+ * KEY_SIZE, NONCE_SIZE, BLANK_KEY, NONCE_MODE, MESSAGE_TOO_LONG, OUTPUT_TOO_SHORT.
+ */
+int64_t tikhoplav_grain128a_crypt(const uint8_t *key, size_t key_len, const uint8_t *nonce, size_t nonce_len,
+                                  const uint8_t *message, size_t message_len, uint8_t *out, size_t out_len);
 
 #ifdef __cplusplus
 }
