@@ -2,6 +2,8 @@
 
 pub mod archive;
 pub mod frames;
+pub mod grain128a;
+pub mod grain128a_vectors;
 pub mod hex;
 pub mod pieces;
 pub mod sizes;

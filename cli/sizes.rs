@@ -11,3 +11,9 @@ pub const FRAME_MESSAGE_MAX: usize = 55;
 pub const LENGTH_CODE_MAX: u32 = 15;
 pub const FRAME_MAX: usize = 64;
 pub const STATE_SIZE: usize = 64;
+pub const GRAIN128A_TAG_BITS_MAX: u32 = 32;
+
+/// The bytes that a tag of Grain-128a takes.
+pub const fn grain128a_tag_size(tag_bits: u32) -> usize {
+    tag_bits.div_ceil(8) as usize
+}

@@ -1,4 +1,5 @@
-//! The archive beside the independent implementation, on seeded random inputs of both editions.
+//! The archive beside the independent implementation, on seeded random inputs of both editions and of
+//! Grain-128a.
 
 mod ad_lengths;
 mod damage;
@@ -6,6 +7,7 @@ mod editions;
 mod equations;
 mod flips;
 mod frames;
+mod grain128a;
 mod judge;
 mod keys;
 mod order;
@@ -94,6 +96,8 @@ fn run(seed: u64) -> Result<usize, String> {
         total += run_groups(&frames::OF_EACH_EDITION, edition, seed)?;
         total += run_groups(&streams::OF_EACH_EDITION, edition, seed)?;
     }
+    println!("Grain-128a");
+    total += run_groups(&grain128a::GROUPS, 1, seed)?;
     Ok(total)
 }
 

@@ -74,22 +74,12 @@ impl Trial {
         Edition::numbered(self.edition).expect("an edition that is known")
     }
 
-    /// The count, the bytes at the front, and behind them the output as lent.
     pub fn success(&self, written: &[u8]) -> Outcome {
-        let mut out = self.lent.clone();
-        out[..written.len()].copy_from_slice(written);
-        Outcome {
-            answer: written.len() as i64,
-            out,
-        }
+        Outcome::success(&self.lent, written)
     }
 
-    /// Minus the number, and the output as lent.
     pub fn refusal(&self, number: u8) -> Outcome {
-        Outcome {
-            answer: -i64::from(number),
-            out: self.lent.clone(),
-        }
+        Outcome::refusal(&self.lent, number)
     }
 
     /// The call and the inputs of another, and no less room.
@@ -128,6 +118,24 @@ impl Trial {
 }
 
 impl Outcome {
+    /// The count, the bytes at the front, and behind them the output as lent.
+    pub fn success(lent: &[u8], written: &[u8]) -> Outcome {
+        let mut out = lent.to_vec();
+        out[..written.len()].copy_from_slice(written);
+        Outcome {
+            answer: written.len() as i64,
+            out,
+        }
+    }
+
+    /// Minus the number, and the output as lent.
+    pub fn refusal(lent: &[u8], number: u8) -> Outcome {
+        Outcome {
+            answer: -i64::from(number),
+            out: lent.to_vec(),
+        }
+    }
+
     pub fn shown(&self) -> String {
         format!("{}, output {}", self.answer, hex::encode(&self.out))
     }

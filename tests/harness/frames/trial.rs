@@ -60,22 +60,12 @@ impl FrameTrial {
         }
     }
 
-    /// The count, the bytes at the front, and behind them the output as lent.
     pub fn success(&self, written: &[u8]) -> Outcome {
-        let mut out = self.lent.clone();
-        out[..written.len()].copy_from_slice(written);
-        Outcome {
-            answer: written.len() as i64,
-            out,
-        }
+        Outcome::success(&self.lent, written)
     }
 
-    /// Minus the number, and the output as lent.
     pub fn refusal(&self, number: u8) -> Outcome {
-        Outcome {
-            answer: -i64::from(number),
-            out: self.lent.clone(),
-        }
+        Outcome::refusal(&self.lent, number)
     }
 
     /// The sealing of a making's message, under the AD of its frame.
