@@ -18,10 +18,12 @@ static uint8_t nonce[TIKHOPLAV_NONCE_SIZE], ad[TIKHOPLAV_AD_MAX];
 static uint8_t message[TIKHOPLAV_MESSAGE_MAX], sealed[TIKHOPLAV_SEALED_MAX];
 static uint8_t field[TIKHOPLAV_FRAME_MAX], frame_message[TIKHOPLAV_FRAME_MESSAGE_MAX];
 static uint8_t state[TIKHOPLAV_STATE_SIZE], tag[TIKHOPLAV_TAG_SIZE];
+static uint8_t with_authentication[TIKHOPLAV_NONCE_SIZE] = { 0x80 };
 static int64_t answer;
 
-/* What the next call on a stream is given: the edition, and the length of AD, piece, output or tag. */
-static uint32_t edition;
+/* What the next call on a stream is given: the edition, and the length of AD, piece, output or tag. What the next call
+   of Grain-128a is given: the bits of the tag, and the length of message or sealed input. */
+static uint32_t edition, tag_bits;
 static size_t len;
 
 static void no_call(void)
@@ -255,6 +257,58 @@ static void checking_finish_with_another_tag(void)
     answer = tikhoplav_checking_finish(state, sizeof state, key, len);
 }
 
+/* The message is the front of the AD's bytes here too. */
+static void grain128a_seal(void)
+{
+    answer = tikhoplav_grain128a_seal(key, sizeof key, with_authentication, sizeof with_authentication, tag_bits, ad,
+                                      len, sealed, sizeof sealed);
+}
+
+static void grain128a_seal_under_the_blank_key(void)
+{
+    answer = tikhoplav_grain128a_seal(blank, sizeof blank, with_authentication, sizeof with_authentication, tag_bits,
+                                      ad, len, sealed, sizeof sealed);
+}
+
+static void grain128a_seal_in_the_other_mode(void)
+{
+    answer = tikhoplav_grain128a_seal(key, sizeof key, nonce, sizeof nonce, tag_bits, ad, len, sealed, sizeof sealed);
+}
+
+static void grain128a_seal_without_room(void)
+{
+    answer = tikhoplav_grain128a_seal(key, sizeof key, with_authentication, sizeof with_authentication, tag_bits, ad,
+                                      len, NULL, 0);
+}
+
+static void grain128a_open(void)
+{
+    answer = tikhoplav_grain128a_open(key, sizeof key, with_authentication, sizeof with_authentication, tag_bits,
+                                      sealed, len, message, sizeof message);
+}
+
+static void grain128a_open_in_the_other_mode(void)
+{
+    answer = tikhoplav_grain128a_open(key, sizeof key, nonce, sizeof nonce, tag_bits, sealed, len, message,
+                                      sizeof message);
+}
+
+static void grain128a_crypt(void)
+{
+    answer = tikhoplav_grain128a_crypt(key, sizeof key, nonce, sizeof nonce, ad, len, sealed, sizeof sealed);
+}
+
+static void grain128a_crypt_in_the_other_mode(void)
+{
+    answer = tikhoplav_grain128a_crypt(key, sizeof key, with_authentication, sizeof with_authentication, ad, len,
+                                       sealed, sizeof sealed);
+}
+
+static void grain128a_crypt_without_room(void)
+{
+    answer = tikhoplav_grain128a_crypt(key, sizeof key, nonce, sizeof nonce, ad, len, NULL, 0);
+}
+
 typedef struct {
     void (*run)(void);
     int64_t expected;
@@ -354,6 +408,41 @@ static const stream_trial stream_trials_of_each_edition[] = {
     { checking_finish, TIKHOPLAV_TAG_SIZE, 2031650 },
 };
 
+typedef struct {
+    void (*run)(void);
+    uint32_t tag_bits;
+    size_t len;
+    int64_t expected;
+} grain128a_trial;
+
+static const grain128a_trial grain128a_trials[] = {
+    { grain128a_seal, 1, 0, 1 },
+    { grain128a_seal, 32, 0, 4 },
+    { grain128a_open, 32, 4, 0 },
+    { grain128a_open, 9, 1, TIKHOPLAV_REFUSED_SEALED_TOO_SHORT },
+    { grain128a_seal, 1, TIKHOPLAV_MESSAGE_MAX, TIKHOPLAV_MESSAGE_MAX + 1 },
+    { grain128a_open, 1, TIKHOPLAV_MESSAGE_MAX + 1, TIKHOPLAV_MESSAGE_MAX },
+    { grain128a_seal, 13, TIKHOPLAV_MESSAGE_MAX, TIKHOPLAV_MESSAGE_MAX + 2 },
+    { grain128a_open, 13, TIKHOPLAV_MESSAGE_MAX + 2, TIKHOPLAV_MESSAGE_MAX },
+    { grain128a_seal, 32, TIKHOPLAV_MESSAGE_MAX, TIKHOPLAV_MESSAGE_MAX + 4 },
+    { grain128a_open, 32, TIKHOPLAV_MESSAGE_MAX + 4, TIKHOPLAV_MESSAGE_MAX },
+    { grain128a_open, 32, TIKHOPLAV_MESSAGE_MAX + 3, TIKHOPLAV_REFUSED_TAG_DIFFERS },
+    { grain128a_open, 24, TIKHOPLAV_MESSAGE_MAX + 4, TIKHOPLAV_REFUSED_MESSAGE_TOO_LONG },
+    { grain128a_seal, 32, TIKHOPLAV_MESSAGE_MAX + 1, TIKHOPLAV_REFUSED_MESSAGE_TOO_LONG },
+    { grain128a_seal, 0, 0, TIKHOPLAV_REFUSED_TAG_LENGTH },
+    { grain128a_open, 33, 4, TIKHOPLAV_REFUSED_TAG_LENGTH },
+    { grain128a_seal_under_the_blank_key, 32, 0, TIKHOPLAV_REFUSED_BLANK_KEY },
+    { grain128a_seal_in_the_other_mode, 32, 0, TIKHOPLAV_REFUSED_NONCE_MODE },
+    { grain128a_seal_without_room, 32, 0, TIKHOPLAV_REFUSED_OUTPUT_TOO_SHORT },
+    { grain128a_open_in_the_other_mode, 32, 4, TIKHOPLAV_REFUSED_NONCE_MODE },
+    { grain128a_crypt, 0, 0, 0 },
+    { grain128a_crypt, 0, 1, 1 },
+    { grain128a_crypt, 0, TIKHOPLAV_MESSAGE_MAX, TIKHOPLAV_MESSAGE_MAX },
+    { grain128a_crypt, 0, TIKHOPLAV_MESSAGE_MAX + 1, TIKHOPLAV_REFUSED_MESSAGE_TOO_LONG },
+    { grain128a_crypt_in_the_other_mode, 0, 0, TIKHOPLAV_REFUSED_NONCE_MODE },
+    { grain128a_crypt_without_room, 0, 1, TIKHOPLAV_REFUSED_OUTPUT_TOO_SHORT },
+};
+
 /* The bytes from the lowest one that is not as it was filled up to the top. */
 static size_t used(void (*run)(void))
 {
@@ -412,17 +501,31 @@ static size_t most_of_streams(const stream_trial *table, size_t count, int64_t s
     return most;
 }
 
+static size_t most_of_grain128a(void)
+{
+    size_t i, most = 0;
+
+    for (i = 0; i < sizeof grain128a_trials / sizeof *grain128a_trials; i++) {
+        tag_bits = grain128a_trials[i].tag_bits;
+        len = grain128a_trials[i].len;
+        most = larger(most, taken(grain128a_trials[i].run, grain128a_trials[i].expected, "Grain-128a", i));
+    }
+    return most;
+}
+
 int main(void)
 {
     const size_t once = sizeof stream_trials / sizeof *stream_trials;
     const size_t each = sizeof stream_trials_of_each_edition / sizeof *stream_trials_of_each_edition;
     size_t others = most_of_trials(), streams = most_of_streams(stream_trials, once, 0);
+    size_t grain128a = most_of_grain128a(), most;
 
     for (edition = TIKHOPLAV_EDITION_1; edition <= TIKHOPLAV_EDITION_2; edition++)
         streams = larger(streams, most_of_streams(stream_trials_of_each_edition, each,
                                                   edition == TIKHOPLAV_EDITION_1 ? 384 : 512));
-    printf("at most %zu bytes; in the calls on streams, %zu\n", larger(others, streams), streams);
-    if (larger(others, streams) > ENOUGH) {
+    most = larger(others, larger(streams, grain128a));
+    printf("at most %zu bytes; in the calls on streams, %zu; in those of Grain-128a, %zu\n", most, streams, grain128a);
+    if (most > ENOUGH) {
         fprintf(stderr, "tests/stack.c: the header says %d\n", ENOUGH);
         return 1;
     }
