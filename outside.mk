@@ -133,6 +133,8 @@ try-calls:
 	@tests/check.sh build/tikhoplav include/tikhoplav.h
 	@echo '== the command-line tool on CAN FD frames'
 	@tests/frames.sh build/tikhoplav include/tikhoplav.h
+	@echo '== the command-line tool with Grain-128a'
+	@tests/grain128a.sh build/tikhoplav include/tikhoplav.h
 	@echo '== the installation'
 	@$(MAKE) -s --no-print-directory -f outside.mk install DESTDIR= PREFIX=$(CURDIR)/$(OUT)/installed
 	@tests/installed.sh $(CURDIR)/$(OUT)/installed $(VERSION) $(CC)

@@ -34,8 +34,16 @@ pub fn run(options: &Options) -> Result<(), Failure> {
         state: [0; STATE_SIZE],
         answer: 0,
     };
-    let edition = cipher.edition.number();
-    stream.call(|state| Kind::Checking.begin(edition, state, &cipher.key, &cipher.nonce, ad.len));
+    let edition = cipher.edition.value();
+    stream.call(|state| {
+        Kind::Checking.begin(
+            edition,
+            state,
+            &cipher.secrets.key,
+            &cipher.secrets.nonce,
+            ad.len,
+        )
+    });
     while let Some(piece) = ad.piece()? {
         stream.call(|state| Kind::Checking.ad(state, &piece));
     }

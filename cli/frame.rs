@@ -18,9 +18,9 @@ pub fn make(options: &Options) -> Result<(), Failure> {
     let message = inputs::data(options)?;
     let mut out = vec![0; FRAME_MAX];
     let answer = frames::make(
-        Some(cipher.edition.number()),
-        &cipher.key,
-        &cipher.nonce,
+        Some(cipher.edition.value()),
+        &cipher.secrets.key,
+        &cipher.secrets.nonce,
         identifier.number,
         &message,
         &mut out,
@@ -43,9 +43,9 @@ pub fn read(options: &Options) -> Result<(), Failure> {
     let frame = frame.map_err(Failure::Usage)?;
     let mut out = vec![0; FRAME_MESSAGE_MAX];
     let answer = frames::read(
-        Some(cipher.edition.number()),
-        &cipher.key,
-        &cipher.nonce,
+        Some(cipher.edition.value()),
+        &cipher.secrets.key,
+        &cipher.secrets.nonce,
         frame.identifier.number,
         length_code(&frame.data),
         &frame.data,

@@ -1,30 +1,44 @@
 //! What the commands are given, read from where the options say.
 
-use crate::edition::Edition;
 use crate::failure::Failure;
+use crate::number::Number;
 use crate::options::Options;
 use crate::streams::Source;
 use std::ffi::OsStr;
 use tikhoplav::hex;
+use tikhoplav::sizes::GRAIN128A_TAG_BITS_MAX;
 
-/// The cipher as it is asked for.
-pub struct Cipher {
-    pub edition: Edition,
+/// Key and nonce, which every cipher takes.
+pub struct Secrets {
     pub key: Vec<u8>,
     pub nonce: Vec<u8>,
 }
 
-impl Cipher {
-    pub fn read(options: &Options) -> Result<Cipher, Failure> {
-        Ok(Cipher {
-            edition: Edition::read(options)?,
+impl Secrets {
+    pub fn read(options: &Options) -> Result<Secrets, Failure> {
+        Ok(Secrets {
             key: required(options, "--key", "--key-file")?,
             nonce: required(options, "--nonce", "--nonce-file")?,
         })
     }
 }
 
-/// What `seal` and `open` are given.
+/// Grain-128AEAD as it is asked for.
+pub struct Cipher {
+    pub edition: Number,
+    pub secrets: Secrets,
+}
+
+impl Cipher {
+    pub fn read(options: &Options) -> Result<Cipher, Failure> {
+        Ok(Cipher {
+            edition: Number::read(options, "--edition", 1)?,
+            secrets: Secrets::read(options)?,
+        })
+    }
+}
+
+/// What `seal` and `open` are given with Grain-128AEAD.
 pub struct Inputs {
     pub cipher: Cipher,
     pub ad: Vec<u8>,
@@ -36,6 +50,23 @@ impl Inputs {
         Ok(Inputs {
             cipher: Cipher::read(options)?,
             ad: either(options, "--ad", "--ad-file")?.unwrap_or_default(),
+            data: data(options)?,
+        })
+    }
+}
+
+/// What `seal` and `open` are given with Grain-128a.
+pub struct Tagged {
+    pub secrets: Secrets,
+    pub tag_bits: Number,
+    pub data: Vec<u8>,
+}
+
+impl Tagged {
+    pub fn read(options: &Options) -> Result<Tagged, Failure> {
+        Ok(Tagged {
+            tag_bits: Number::read(options, "--tag-bits", GRAIN128A_TAG_BITS_MAX)?,
+            secrets: Secrets::read(options)?,
             data: data(options)?,
         })
     }

@@ -1,22 +1,25 @@
 //! The lab's command-line tool over the archive.
 
 mod ad_pieces;
+mod algorithm;
 mod candump;
 mod check;
 mod crypt;
-mod edition;
 mod failure;
 mod frame;
 mod frame_checks;
 mod frame_job;
+mod grain128a_checks;
 mod inputs;
 mod job;
 mod notation;
+mod number;
 mod options;
 mod output;
 mod parts;
 mod refusal;
 mod sealed_pieces;
+mod sealing;
 mod selftest;
 mod stream_checks;
 mod stream_job;
@@ -27,7 +30,8 @@ use options::{Known, Options};
 use std::ffi::OsString;
 use std::process::ExitCode;
 use tikhoplav::archive::Call;
-use tikhoplav::sizes::{AD_MAX, FRAME_MESSAGE_MAX, IDENTIFIER_MAX, MESSAGE_MAX, SEALED_MAX};
+use tikhoplav::sizes::{AD_MAX, FRAME_MESSAGE_MAX, GRAIN128A_TAG_BITS_MAX};
+use tikhoplav::sizes::{IDENTIFIER_MAX, MESSAGE_MAX, SEALED_MAX};
 
 const VERSION: &str = concat!("tikhoplav ", env!("TIKHOPLAV_VERSION"), "\n");
 
@@ -40,6 +44,7 @@ fn help() -> String {
         SEALED_MAX = SEALED_MAX,
         IDENTIFIER_MAX = IDENTIFIER_MAX,
         FRAME_MESSAGE_MAX = FRAME_MESSAGE_MAX,
+        TAG_BITS_MAX = GRAIN128A_TAG_BITS_MAX,
         PIECE = streams::PIECE
     )
 }
@@ -60,8 +65,9 @@ fn run(arguments: &[OsString]) -> Result<(), Failure> {
         return Err(Failure::Usage("no command".to_string()));
     };
     match command.to_str() {
-        Some("seal") => with_options(&options::SEAL_AND_OPEN, rest, |o| crypt::run(Call::Seal, o)),
-        Some("open") => with_options(&options::SEAL_AND_OPEN, rest, |o| crypt::run(Call::Open, o)),
+        Some("seal") => seal_or_open(Call::Seal, rest),
+        Some("open") => seal_or_open(Call::Open, rest),
+        Some("crypt") => with_options(&options::CRYPT, rest, crypt::run),
         Some("check") => with_options(&options::CHECK, rest, check::run),
         Some("frame") => frame(rest),
         Some("parts") => with_options(&options::PARTS, rest, parts::run),
@@ -73,6 +79,12 @@ fn run(arguments: &[OsString]) -> Result<(), Failure> {
             command.display()
         ))),
     }
+}
+
+fn seal_or_open(call: Call, arguments: &[OsString]) -> Result<(), Failure> {
+    with_options(&options::SEAL_AND_OPEN, arguments, |options| {
+        sealing::run(call, options)
+    })
 }
 
 fn frame(arguments: &[OsString]) -> Result<(), Failure> {

@@ -9,39 +9,67 @@ use std::os::unix::ffi::OsStrExt;
 pub struct Known {
     with_value: &'static [&'static [&'static str]],
     alone: &'static [&'static str],
+    /// Those of other commands, and why this one has none.
+    elsewhere: &'static [Reason],
 }
 
-const CIPHER: &[&str] = &[
-    "--edition",
-    "--key",
-    "--key-file",
-    "--nonce",
-    "--nonce-file",
-];
+/// An option, and why it can't be given.
+type Reason = (&'static str, &'static str);
+
+const SECRETS: &[&str] = &["--key", "--key-file", "--nonce", "--nonce-file"];
 
 pub const SEAL_AND_OPEN: Known = Known {
-    with_value: &[CIPHER, &["--ad", "--ad-file", "--in", "--out"]],
+    with_value: &[
+        SECRETS,
+        &["--cipher", "--edition", "--tag-bits", "--ad", "--ad-file"],
+        &["--in", "--out"],
+    ],
     alone: &["--hex-in", "--hex-out", "--help"],
+    elsewhere: &[],
 };
+
+pub const CRYPT: Known = Known {
+    with_value: &[SECRETS, &["--cipher", "--in", "--out"]],
+    alone: &["--hex-in", "--hex-out", "--help"],
+    elsewhere: &[
+        ("--edition", "no cipher of crypt has editions"),
+        ("--ad", "crypt authenticates nothing"),
+        ("--ad-file", "crypt authenticates nothing"),
+        ("--tag-bits", "crypt makes no tag"),
+    ],
+};
+
+const CHECK_NO_OTHER: &str = "check is for grain-128aead alone";
 
 pub const CHECK: Known = Known {
-    with_value: &[CIPHER, &["--ad", "--ad-file", "--in"]],
+    with_value: &[SECRETS, &["--edition", "--ad", "--ad-file", "--in"]],
     alone: &["--hex-in", "--help"],
+    elsewhere: &[("--cipher", CHECK_NO_OTHER), ("--tag-bits", CHECK_NO_OTHER)],
 };
 
+const FRAMES_NO_OTHER: &[Reason] = &[
+    ("--cipher", "frames are for grain-128aead alone"),
+    ("--tag-bits", "frames are for grain-128aead alone"),
+];
+
 pub const FRAME_MAKE: Known = Known {
-    with_value: &[CIPHER, &["--id", "--flags", "--in", "--out"]],
+    with_value: &[SECRETS, &["--edition", "--id", "--flags", "--in", "--out"]],
     alone: &["--hex-in", "--help"],
+    elsewhere: FRAMES_NO_OTHER,
 };
 
 pub const FRAME_READ: Known = Known {
-    with_value: &[CIPHER, &["--in", "--out"]],
+    with_value: &[SECRETS, &["--edition", "--in", "--out"]],
     alone: &["--hex-out", "--help"],
+    elsewhere: FRAMES_NO_OTHER,
 };
+
+const PARTS_NO_OTHER: &str = "parts is for grain-128aead alone, whose tags have 8 bytes";
 
 pub const PARTS: Known = Known {
     with_value: &[&["--in"]],
     alone: &["--hex-in", "--help"],
+    elsewhere: &[("--cipher", PARTS_NO_OTHER), ("--tag-bits", PARTS_NO_OTHER)],
 };
 
 #[derive(Default)]
@@ -67,7 +95,7 @@ impl Options {
                 let value = present(option, value, attached.is_some())?;
                 options.values.insert(option, value.to_owned()).is_none()
             } else {
-                return usage(unknown(name));
+                return usage(unknown(known, name));
             };
             if !fresh {
                 return usage(format!("{} is given twice", name.display()));
@@ -82,6 +110,14 @@ impl Options {
 
     pub fn value(&self, name: &str) -> Option<&OsStr> {
         self.values.get(name).map(OsString::as_os_str)
+    }
+
+    /// None of these is given.
+    pub fn exclude(&self, reasons: &[Reason]) -> Result<(), Failure> {
+        match reasons.iter().find(|(name, _)| self.value(name).is_some()) {
+            Some((name, why)) => usage(format!("{name}: {why}")),
+            None => Ok(()),
+        }
     }
 }
 
@@ -109,7 +145,10 @@ fn present<'a>(name: &str, value: Option<&'a OsStr>, attached: bool) -> Result<&
     }
 }
 
-fn unknown(name: &OsStr) -> String {
+fn unknown(known: &Known, name: &OsStr) -> String {
+    if let Some((name, why)) = known.elsewhere.iter().find(|(option, _)| name == *option) {
+        return format!("{name}: {why}");
+    }
     let kind = if name.as_bytes().starts_with(b"-") {
         "unknown option"
     } else {

@@ -1,9 +1,10 @@
 //! A refusal in words.
 
-use crate::inputs::{Cipher, Inputs};
+use crate::inputs::{Cipher, Inputs, Secrets, Tagged};
 use crate::notation::{Frame, Identifier};
 use tikhoplav::archive::Call;
 use tikhoplav::frames;
+use tikhoplav::sizes::{grain128a_tag_size, GRAIN128A_TAG_BITS_MAX};
 use tikhoplav::sizes::{AD_MAX, FRAME_MESSAGE_MAX, IDENTIFIER_MAX, KEY_SIZE};
 use tikhoplav::sizes::{MESSAGE_MAX, NONCE_SIZE, SEALED_MAX, TAG_SIZE};
 
@@ -12,6 +13,10 @@ const WRONG_TAG: &str = "the tag is wrong: the key, the nonce, the associated da
 
 const WRONG_TAG_OF_FRAME: &str = "the tag is wrong: the key, the nonce, the identifier, the \
     length code or the data field is not as it was sealed";
+
+const WRONG_TAG_OF_GRAIN128A: &str =
+    "the tag is wrong: the key, the nonce, the number of tag bits \
+    or the sealed input is not as it was sealed";
 
 /// Zeros where a key should be, as a key that was never set.
 const BLANK_KEY: &str = "the key is 16 zero bytes, which anybody can guess";
@@ -24,27 +29,70 @@ const TRUE_KEY: &str = "the key that it was sealed with; what was sealed with ze
 
 const TRUE_KEY_OF_FRAME: &str = "read the frame with the key that it was sealed with";
 
+const TRUE_KEY_OF_GRAIN128A: &str = "open with the key that it was sealed with";
+
+const KEY_OF_CRYPT: &str = "encipher with a random one ('head -c 16 /dev/urandom >lab.key' makes \
+    one, for --key-file lab.key), decipher with the key that it was enciphered with";
+
+const NONCE_OF_SEALING: &str =
+    "bit 0 of the nonce, the top bit of its first byte, is 0, and must be \
+    1 for seal and open (crypt takes the others)";
+
+const NONCE_OF_CRYPT: &str =
+    "bit 0 of the nonce, the top bit of its first byte, is 1, and must be 0 \
+    for crypt (seal and open take the others)";
+
 /// Such versions coded an AD length of 128 to 255 in another way.
 const SEALED_BEFORE: &str =
     "a version before 2.0.0 sealed it: what those sealed with associated data \
     of 128 to 255 bytes no longer opens";
 
-/// What is wrong with the inputs of `seal` or `open`, where the archive refused them with this
-/// number.
+/// What is wrong with the inputs of `seal` or `open` with Grain-128AEAD, where the archive refused
+/// them with this number.
 pub fn sentence(call: Call, inputs: &Inputs, number: u8) -> String {
     let (data, limit, key) = match call {
         Call::Seal => ("message", MESSAGE_MAX, MAKE_A_KEY.to_string()),
         Call::Open => ("sealed input", SEALED_MAX, format!("open with {TRUE_KEY}")),
     };
     match number {
-        3 => format!(
-            "{}, and may be at most {AD_MAX}",
-            is("associated data", &inputs.ad)
-        ),
-        4 => format!("{}, and may be at most {limit}", is(data, &inputs.data)),
-        5 => too_short(&inputs.data),
+        3 => too_long("associated data", &inputs.ad, AD_MAX),
+        4 => too_long(data, &inputs.data, limit),
+        5 => too_short(&inputs.data, TAG_SIZE),
         7 => wrong_tag(&inputs.cipher, inputs.ad.len()),
-        _ => of_any(&inputs.cipher, &key, number),
+        _ => of_cipher(&inputs.cipher, &key, number),
+    }
+}
+
+/// What is wrong with the inputs of `seal` or `open` with Grain-128a.
+pub fn of_grain128a(call: Call, inputs: &Tagged, number: u8) -> String {
+    let tag_size = grain128a_tag_size(inputs.tag_bits.value());
+    let (data, limit, key) = match call {
+        Call::Seal => ("message", MESSAGE_MAX, MAKE_A_KEY),
+        Call::Open => (
+            "sealed input",
+            MESSAGE_MAX + tag_size,
+            TRUE_KEY_OF_GRAIN128A,
+        ),
+    };
+    match number {
+        4 => too_long(data, &inputs.data, limit),
+        5 => too_short(&inputs.data, tag_size),
+        7 => WRONG_TAG_OF_GRAIN128A.to_string(),
+        19 => NONCE_OF_SEALING.to_string(),
+        20 => format!(
+            "the tag is to have {} bits, and must have 1 to {GRAIN128A_TAG_BITS_MAX}",
+            inputs.tag_bits
+        ),
+        _ => of_any(&inputs.secrets, key, number),
+    }
+}
+
+/// What is wrong with the inputs of `crypt`.
+pub fn of_crypt(secrets: &Secrets, message: &[u8], number: u8) -> String {
+    match number {
+        4 => too_long("message", message, MESSAGE_MAX),
+        19 => NONCE_OF_CRYPT.to_string(),
+        _ => of_any(secrets, KEY_OF_CRYPT, number),
     }
 }
 
@@ -54,11 +102,11 @@ pub fn of_checking(cipher: &Cipher, ad_len: usize, tag: &[u8], number: u8) -> St
     match number {
         3 => format!("the associated data is over {AD_MAX} bytes, and may be at most that"),
         4 => format!("the sealed input is over {SEALED_MAX} bytes, and may be at most that"),
-        5 => too_short(tag),
+        5 => too_short(tag, TAG_SIZE),
         7 => wrong_tag(cipher, ad_len),
         13 => "the call is out of turn in its stream".to_string(),
         14 => "the state is none that a stream can have".to_string(),
-        _ => of_any(cipher, &format!("check with {TRUE_KEY}"), number),
+        _ => of_cipher(cipher, &format!("check with {TRUE_KEY}"), number),
     }
 }
 
@@ -70,7 +118,7 @@ pub fn of_making(cipher: &Cipher, identifier: &Identifier, message: &[u8], numbe
             "{}, and a frame holds at most {FRAME_MESSAGE_MAX}",
             is("message", message)
         ),
-        _ => of_any(cipher, MAKE_A_KEY, number),
+        _ => of_cipher(cipher, MAKE_A_KEY, number),
     }
 }
 
@@ -85,32 +133,43 @@ pub fn of_reading(cipher: &Cipher, frame: &Frame, number: u8) -> String {
         ),
         11 => wrong_message_length(&frame.data),
         12 => filler_not_zero(&frame.data),
-        _ => of_any(cipher, TRUE_KEY_OF_FRAME, number),
+        _ => of_cipher(cipher, TRUE_KEY_OF_FRAME, number),
+    }
+}
+
+/// The refusals that all calls of Grain-128AEAD share.
+fn of_cipher(cipher: &Cipher, key: &str, number: u8) -> String {
+    match number {
+        23 => format!("the edition is {}, and must be 1 or 2", cipher.edition),
+        _ => of_any(&cipher.secrets, key, number),
     }
 }
 
 /// The refusals that all calls share. `key` says what to do about a blank one.
-fn of_any(cipher: &Cipher, key: &str, number: u8) -> String {
+fn of_any(secrets: &Secrets, key: &str, number: u8) -> String {
     match number {
-        1 => format!("{}, and must be {KEY_SIZE}", is("key", &cipher.key)),
-        2 => format!("{}, and must be {NONCE_SIZE}", is("nonce", &cipher.nonce)),
+        1 => format!("{}, and must be {KEY_SIZE}", is("key", &secrets.key)),
+        2 => format!("{}, and must be {NONCE_SIZE}", is("nonce", &secrets.nonce)),
         6 => "the output is too short".to_string(),
         15 => format!("{BLANK_KEY}: {key}"),
-        23 => format!("the edition is {}, and must be 1 or 2", cipher.edition),
         _ => unreachable!("the header names no such refusal {number}"),
     }
 }
 
-fn too_short(sealed: &[u8]) -> String {
+fn too_long(what: &str, bytes: &[u8], limit: usize) -> String {
+    format!("{}, and may be at most {limit}", is(what, bytes))
+}
+
+fn too_short(sealed: &[u8], tag_size: usize) -> String {
     format!(
-        "{}, and its tag alone is {TAG_SIZE}",
+        "{}, and its tag alone is {tag_size}",
         is("sealed input", sealed)
     )
 }
 
 /// The versions before 2.0.0 have edition 1 alone.
 fn wrong_tag(cipher: &Cipher, ad_len: usize) -> String {
-    let before = match (cipher.edition.number(), ad_len) {
+    let before = match (cipher.edition.value(), ad_len) {
         (1, 128..=255) => format!(", or {SEALED_BEFORE}"),
         _ => String::new(),
     };
@@ -118,7 +177,7 @@ fn wrong_tag(cipher: &Cipher, ad_len: usize) -> String {
 }
 
 fn or_other_edition(cipher: &Cipher) -> String {
-    let other = if cipher.edition.number() == 1 { 2 } else { 1 };
+    let other = if cipher.edition.value() == 1 { 2 } else { 1 };
     format!(", or it was sealed under edition {other} (--edition {other})")
 }
 

@@ -230,6 +230,22 @@ static void keys_and_nonces(call *f, job *j)
     j->nonce.bytes[0] ^= 0x80;
 }
 
+/* Keys with one bit are not blank. */
+static void keys_with_one_bit(call *f, const job *legal)
+{
+    uint8_t key[TIKHOPLAV_KEY_SIZE] = { 0 };
+    unsigned bit;
+    job j = *legal;
+
+    j.key.bytes = key;
+    j.out.len = 0;
+    for (bit = 0; bit < 8 * TIKHOPLAV_KEY_SIZE; bit++) {
+        key[bit / 8] = (uint8_t)(0x80 >> bit % 8);
+        refused(f, &j, TIKHOPLAV_REFUSED_OUTPUT_TOO_SHORT);
+        key[bit / 8] = 0;
+    }
+}
+
 /* The number of the tag's bits, on such a job. */
 static void tag_lengths(call *f, job *j)
 {
@@ -251,6 +267,7 @@ static void refusals_of_sealing(void)
     job j = sealing(9, 10);
 
     keys_and_nonces(seal, &j);
+    keys_with_one_bit(seal, &j);
     tag_lengths(seal, &j);
     CHECK(seal(&j) == 12);
     resize(&j.out, 11);
@@ -269,6 +286,7 @@ static void refusals_of_opening(void)
     job j = opening(9, 10);
 
     CHECK(open_sealed(&j) == 10);
+    keys_with_one_bit(open_sealed, &j);
     j.data.bytes[11] ^= 0x80;
     refused(open_sealed, &j, TIKHOPLAV_REFUSED_TAG_DIFFERS);
     resize(&j.out, 9);
@@ -293,6 +311,7 @@ static void refusals_of_crypt(void)
     job j = crypting(10);
 
     keys_and_nonces(crypt_message, &j);
+    keys_with_one_bit(crypt_message, &j);
     CHECK(crypt_message(&j) == 10);
     resize(&j.out, 9);
     refused(crypt_message, &j, TIKHOPLAV_REFUSED_OUTPUT_TOO_SHORT);

@@ -309,8 +309,8 @@ help_and_selftest() {
     [ "$(sed -n '/in this order:$/{n;p;}' output)" = "        23 the edition is a number other than 1 and 2" ]
   check "--help says that the editions don't open one another" grep -q "The two don't open one another" output
   check "--help says which edition to expect" grep -q "A partner's box is likely to speak edition 2 if" output
-  check "--help has the limits of the data" \
-    grep -q "4 the message is over $message_max bytes (seal), or the sealed input over $sealed_max (open, check)" output
+  check "--help has the limits of the data" grep -q \
+    "4 the message is over $message_max bytes (seal, crypt), or the sealed input over $sealed_max (open, check)" output
   cp output help
   for command in seal open parts; do
     run 0 "$command" --help
@@ -322,13 +322,15 @@ help_and_selftest() {
   check "the examples of --help" env PATH="$(dirname "$tool"):$PATH" sh -e examples >shown
   check "the examples in hex, of each edition" [ "$(grep -cE '^[0-9a-f]{46}$' shown)" = 2 ]
   check "the example of a file" cmp log.bin log.copy
+  check "the example of Grain-128a" [ "$(grep -cE '^[0-9a-f]{38}$' shown)" = 1 ]
+  check "the example of a file without a tag" cmp log.bin log.deciphered
   check "the examples of a frame" [ "$(sed -n '/##/{N;p;}' shown)" = $'7E8##10206929DE3FBCB4C983CC600\n0960' ]
   run 0 parts --in log.sealed
   check "the example of the parts" cmp output <(tail -n 2 shown)
   run 0 --version
   check "--version" [ "$(cat output)" = "tikhoplav $version" ]
   run 0 selftest
-  check "selftest" [ "$(tail -n 1 output)" = "186 passed, 0 failed" ]
+  check "selftest" [ "$(tail -n 1 output)" = "211 passed, 0 failed" ]
   check "selftest says which published vector it leaves out" grep -q "^  Published vector 1 is under this key" output
 }
 
