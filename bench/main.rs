@@ -1,6 +1,7 @@
 //! The archive beside the independent implementation, which is the yardstick: the same work, on
 //! the same machine, in rounds by turns.
 
+mod grain128a;
 mod growth;
 mod jobs;
 mod pieces;
@@ -41,6 +42,17 @@ fn main() {
     calls();
     engines();
 
+    println!(
+        "\nGrain-128a, with a tag of {} bits and without one. The yardstick of sealing, opening and crypt is",
+        grain128a::TAG_BITS
+    );
+    println!("its own sealing, opening and crypt with Grain-128a:");
+    grain128a_calls();
+    println!("\nCrypt beside the yardstick's sealing of the same message with Grain-128a:");
+    for size in MESSAGE_LENS {
+        row("crypt, bytes", size, &mut grain128a::crypt_to_sealing(size));
+    }
+
     println!("\nThe second edition's speed as a part of the first's, both by the archive:");
     editions();
 
@@ -74,6 +86,18 @@ fn calls() {
         for size in MESSAGE_LENS {
             row(opening, size, &mut jobs::opening(edition, size));
         }
+    }
+}
+
+fn grain128a_calls() {
+    for size in MESSAGE_LENS {
+        row("sealing, bytes", size, &mut grain128a::sealing(size));
+    }
+    for size in MESSAGE_LENS {
+        row("opening, bytes", size, &mut grain128a::opening(size));
+    }
+    for size in MESSAGE_LENS {
+        row("crypt, bytes", size, &mut grain128a::crypt(size));
     }
 }
 
