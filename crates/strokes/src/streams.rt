@@ -62,9 +62,10 @@ pub fn preoutput_word(g: Registers) -> Keystreamed
     ensures { λ r. ⌜ Keystreams 1 32 (generatorOf g) (r .registers) (r .keystream) ⌝ }
 {
     let registers = stroke::plain_stroke(g);
+    let y = stroke::outputs(g);
     Keystreamed {
         registers,
-        keystream: bits::slide(0, stroke::outputs(g) << 32, 32),
+        keystream: bits::slide(0, y << 32, 32),
     }
 }
 
@@ -88,13 +89,15 @@ pub fn keystream_byte(g: Registers, taken: Taken) -> Keystreamed
     }
 }
 
-// The clocks of 32 keystream bits. Those of every second pre-output are written out, since what has one caller is compiled into that
-// caller's loop.
+// The clocks of 32 keystream bits. It is written out, since what has one caller is compiled into that caller's loop.
 pub fn keystream_word(g: Registers, taken: Taken) -> Keystreamed
     ensures { λ r. ⌜ Keystreams (spacing taken) 32 (generatorOf g) (r .registers) (r .keystream) ⌝ }
 {
     match taken {
-        Taken::Every => preoutput_word(g),
+        Taken::Every => Keystreamed {
+            registers: stroke::plain_stroke(g),
+            keystream: bits::slide(0, stroke::outputs(g) << 32, 32),
+        },
         Taken::EverySecond => {
             let half = stroke::plain_stroke(g);
             let s = parted(Run {
