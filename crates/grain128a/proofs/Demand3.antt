@@ -8,14 +8,13 @@ use Prim.Native.Nat.{ℕ, _+_, _-_, _*_, _≤_}
 use native.Mathlib.Nat.{le-of-eq}
 use native.Mathlib.Omega.{arith}
 use lib.Dec.{lit<}
-use lib.ListN.{length, take, drop, length-append, List·getD-eq-default}
-use lib.Seq.{take-at, drop-at}
+use lib.ListN.{length, take, drop, length-append, length-drop, take-append-drop, List·getD-eq-default}
+use lib.Seq.{take-at, drop-at, length-take-le}
 use Rattle.bits.specs.Bytes.{Bytes}
 use Rattle.bits.specs.Strings.{_⊞_, zeros, places}
 use Rattle.bits.proofs.Flip.{Flips}
 use Rattle.bits.proofs.Slides.{places-zeros}
 use Rattle.bits.proofs.Sum.{sum-comm, sum-self, sum-zeros, sum-append, sum-agrees, drop-sum, length-sum}
-use Rattle.refusals.specs.Outcome.{Outcome}
 use Rattle.authenticator.specs.ClosedForm.{registersAt}
 use Rattle.authenticator.proofs.Cutting.{cut-sums}
 use Rattle.authenticator.proofs.Linear.{registersAt-between}
@@ -24,7 +23,7 @@ use Rattle.machine.specs.Machine.{State}
 use Rattle.machine.specs.Laws.{registerAt, differingRegisters}
 use Rattle.machine.proofs.Accumulator.{length-registerAt, accumulator-sum}
 use Rattle.key.specs.Sizes.{keySize, nonceSize}
-use Rattle.startup.proofs.Order.{length-bitsIn, bytesIn-are-bytes, bitsIn-injective, length-flipIn, bitsIn-flipIn, flipIn-append, flipIn-are-bytes, sum-flipIn}
+use Rattle.startup.proofs.Order.{length-bitsIn, bytesIn-are-bytes, bitsIn-injective, length-flipIn, bitsIn-flipIn, flipIn-append, flipIn-are-bytes, sum-flipIn, length-sum-bitsIn, flipIn-sum}
 use Rattle.strings.proofs.OverBytes.{cryptBytes}
 use Rattle.strings.proofs.ByteStrings.{cryptBytes-between}
 use Rattle.tagged.specs.Payload.{ciphertextPart, tagPart}
@@ -35,9 +34,9 @@ use Rattle.grain128a.specs.StartUp.{initialised}
 use Rattle.grain128a.specs.Payload.{authenticated, ciphertext, deciphered, tagSize, pad, cut, tagBits, tag, cipher, payload}
 use Rattle.grain128a.specs.Calls.{recovered, opened}
 use Rattle.grain128a.specs.Demand2.{Legal}
-use Rattle.grain128a.specs.Demand3.{flippedRegisters, Flipped, Agrees, Demand3, PastTag}
+use Rattle.grain128a.specs.Demand3.{flippedRegisters, Flipped, Agrees, Demand3, EveryFlip, PastTag}
 use Rattle.grain128a.proofs.StartUp.{initialised-sized}
-use Rattle.grain128a.proofs.Payload.{sound, length-tagBits, length-padded, bits-tag}
+use Rattle.grain128a.proofs.Payload.{sound, length-tagBits, bits-tag, lengths}
 use Rattle.grain128a.proofs.Settled.{openingJudgement, opened-settled}
 use Rattle.grain128a.proofs.Demand2.{opening-passes}
 
@@ -148,6 +147,40 @@ demand3 w key nonce input out f room =
     verdict (cipher w key nonce) input out (openingJudgement w key nonce input out) (opened w key nonce input out) (opened-settled w key nonce input out)
     (opening-passes w key nonce input out (f .oldMessage) (f .genuine .legal) (ap length (input-parts f) ∙ length-append (c′ f) (t′ f) ∙ ap₂ _+_ (length-c′ f) (length-t′ f)) room)
     (authentic-agrees f) (recovers f)
+
+-- The flips are the sum of the two, parted.
+pub every-flip : EveryFlip
+every-flip w key nonce message p input makes b e = (
+  record {
+    oldMessage = message;
+    oldPayload = p;
+    genuine = makes;
+    inCiphertext = take n flips;
+    inTag = take w (drop n flips);
+    past = drop w (drop n flips);
+    ciphertextFlips = length-take-le n flips (omega (arith, all, long));
+    tagFlips = length-take-le w (drop n flips) (omega (arith, length-drop n flips, all, long));
+    pastFlips = omega (arith, length-drop w (drop n flips), length-drop n flips, all, long);
+    flippedInput =
+        sym
+        (ap (λ (r : List Bool). flip p (take n flips ++ r)) (take-append-drop w (drop n flips)) ∙ ap (flip p) (take-append-drop n flips)
+        ∙ flipIn-sum First p input b (sym e));
+  },
+  refl,
+  refl,
+)
+  where
+    n : ℕ
+    n = 8 * length message
+
+    flips : List Bool
+    flips = bits p ⊞ bits input
+
+    all : Flips p flips
+    all = length-sum-bitsIn First p input (sym e)
+
+    long : length p ≡ length message + tagSize w
+    long = ap length (sym (makes .made)) ∙ lengths w key nonce message .payload
 
 -- An authentic tag has zeros past its length.
 pub past-tag : (w : ℕ) (key nonce input out : List ℕ) → PastTag w key nonce input out (opened w key nonce input out)

@@ -6,9 +6,8 @@ use mathlib.Core.List.{List, [], _∷_, _++_}
 use Prim.Native.Nat.{ℕ, _+_, _-_, _*_, _≤_}
 use native.Mathlib.Omega.{arith}
 use lib.Dec.{lit<}
-use lib.ListN.{length, take, drop, length-append, length-drop, length-replicate}
+use lib.ListN.{length, take, length-append, length-drop, length-replicate}
 use lib.Seq.{take-at}
-use Rattle.bits.specs.Bytes.{Bytes}
 use Rattle.bits.specs.Strings.{zeros}
 use Rattle.machine.specs.declared.edition.Edition.the-variants.{First}
 use Rattle.machine.specs.Machine.{run}

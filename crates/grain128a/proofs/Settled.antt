@@ -14,8 +14,8 @@ use Rattle.refusals.specs.Outcome.{settled, judged}
 use Rattle.refusals.proofs.LastRow.{after-false, check-last}
 use Rattle.limits.specs.Limits.{messageLimit}
 use Rattle.checks.proofs.Demand1.{passed-quiet, quiet-passed}
-use Rattle.mode_checks.specs.Order.{common, beforeTag, authenticated, unauthenticated}
-use Rattle.mode_checks.specs.Rows.{commonRows, authenticatedRows, unauthenticatedRows}
+use Rattle.mode_checks.specs.Order.{common, beforeTag, authenticated}
+use Rattle.mode_checks.specs.Rows.{commonRows, authenticatedRows}
 use Rattle.mode_checks.proofs.Rows.{tabled, AuthenticatedClear, authenticated-clear, clear-authenticated}
 use Rattle.grain128a.specs.Payload.{tagSize, payload}
 use Rattle.grain128a.specs.Calls.{sealed, recovered, tagDiffers, opened}

@@ -1,11 +1,11 @@
 -- Start-up in words, and the sizes that it makes.
 -- Assumes nothing.
-use mathlib.Core.Path.{_≡_, sym, ap, _∙_}
+use mathlib.Core.Path.{_≡_, ap, _∙_}
 use mathlib.Core.Bool.{Bool, false}
 use mathlib.Core.List.{List, _++_}
-use Prim.Native.Nat.{ℕ, _+_, _*_, _<_}
+use Prim.Native.Nat.{ℕ, _+_}
 use native.Mathlib.Nat.{one-mul}
-use lib.ListN.{length, drop, length-replicate}
+use lib.ListN.{drop, length-replicate}
 use lib.Seq.{drop-at}
 use Rattle.bits.specs.Bytes.{word}
 use Rattle.bits.specs.Strings.{zeros}
@@ -22,8 +22,7 @@ use Rattle.authenticator.specs.Words.{authenticatorOf}
 use Rattle.authenticator.specs.Cutting as authenticator
 use Rattle.machine.specs.declared.edition.Edition.the-variants.{First}
 use Rattle.machine.specs.Engine.{stateOf}
-use Rattle.machine.specs.Laws.{Sized, cut}
-use Rattle.key.specs.Sizes.{keySize, nonceSize}
+use Rattle.machine.specs.Laws.{cut}
 use Rattle.startup.proofs.Loaded.{key-bits, nonce-bits, loaded-sized}
 use Rattle.startup.proofs.Sizes.{fed-back-sized, plain-sized}
 use Rattle.grain128a.specs.Bits.{bits}

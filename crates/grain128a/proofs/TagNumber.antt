@@ -8,7 +8,7 @@ use native.Mathlib.Nat.{mod-lt}
 use native.Mathlib.Omega.{arith}
 use lib.Dec.{lit<}
 use lib.ListN.{drop}
-use lib.Pow.{pow-pos, pow-mono, shl-lt, shl-exact}
+use lib.Pow.{pow-pos, shl-lt, shl-exact}
 use Rattle.bits.specs.Bytes.{word}
 use Rattle.bits.specs.Strings.{zeros}
 use Rattle.bits.proofs.Moved.{word-zero}

@@ -4,6 +4,7 @@ use mathlib.Core.Bool.{Bool, true}
 use mathlib.Core.List.{List, _++_}
 use Prim.Native.Nat.{ℕ, _*_, _≤_}
 use lib.ListN.{length}
+use Rattle.bits.specs.Bytes.{Bytes}
 use Rattle.bits.specs.Strings.{zeros, places}
 use Rattle.refusals.specs.declared.Refusal.the-variants.{TagDiffers}
 use Rattle.refusals.specs.Outcome.{Outcome, refused}
@@ -45,6 +46,12 @@ Agrees {w} {key} {nonce} f = (flippedRegisters w key nonce (f .inCiphertext) ≡
 abbrev pub Demand3 : (w : ℕ) → (key nonce input out : List ℕ) → Outcome → Type 0
 Demand3 w key nonce input out o =
     (f : Flipped w key nonce input) → length (f .oldMessage) ≤ length out → Verdict (Agrees f) (flip (f .oldMessage) (f .inCiphertext)) out o
+
+-- Every input as long as a genuine payload is that payload with flips.
+abbrev pub EveryFlip : Type 0
+EveryFlip =
+    (w : ℕ) (key nonce message p input : List ℕ) → Makes w key nonce message p → Bytes input → length input ≡ length p
+    → (f : Flipped w key nonce input) × (f .oldMessage ≡ message) × (f .oldPayload ≡ p)
 
 -- Whatever the input, all else legal and with room: a set bit past the tag's length is refusal 7.
 abbrev pub PastTag : (w : ℕ) → (key nonce input out : List ℕ) → Outcome → Type 0
