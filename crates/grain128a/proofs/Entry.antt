@@ -19,6 +19,7 @@ use Rattle.refusals.specs.declared.Refusal.the-variants.{TagDiffers}
 use Rattle.refusals.specs.declared.Answer.the-variants.{Count, Refused}
 use Rattle.refusals.specs.Refusals.{among, after, check}
 use Rattle.refusals.specs.Outcome.{outcome, settled, judged}
+use Rattle.refusals.proofs.LastRow.{settled-failed, settled-success}
 use Rattle.limits.specs.Limits.{messageLimit}
 use Rattle.mode_checks.specs.Order.{unauthenticated}
 use Rattle.mode_checks.proofs.Rows.{AuthenticatedClear}
@@ -97,8 +98,7 @@ pub record SealChecked (w : ℕ) (key nonce message lent : List ℕ) (c : Check)
 
 module _ {w : ℕ} {key nonce message lent : List ℕ} {c : Check} (checks : SealChecked w key nonce message lent c) where
   pub seal-failed : {r : Refusal} → c ≡ Failed r → outcome (Refused r) lent ≡ sealed w key nonce message lent
-  unfolding settled
-  seal-failed e = sym (sealed-settled w key nonce message lent ∙ ap (λ (d : Check). settled d (payload w key nonce message) lent) (sym (checks .checked) ∙ e))
+  seal-failed e = settled-failed (sealingJudgement w key nonce message lent) (payload w key nonce message) lent (sealed-settled w key nonce message lent) (sym (checks .checked) ∙ e)
 
   module _ (e : c ≡ Passed) where
     pub seal-legal : Legal w key nonce message × (length message + tagSize w ≤ length lent)
@@ -109,12 +109,12 @@ module _ {w : ℕ} {key nonce message lent : List ℕ} {c : Check} (checks : Sea
         → TagNumber w (run (stateOf done) (true ∷ []) .authenticator .accumulator) t
         → written ≡ take (length message) out ++ (plain.bytes (tagSize w) (word (8 * tagSize w) t) ++ drop (tagSize w) (drop (length message) out))
         → outcome (Count (length message + tagSize w)) written ≡ sealed w key nonce message lent
-    unfolding cipher payload ciphertext tag settled bytesIn ordered
+    unfolding cipher payload ciphertext tag bytesIn ordered
     seal-passed {b} {done} {t} {out} {written} began crypted tagged stored =
         entry.sealed-output (cipher w key nonce) (sound w key nonce) message lent out written
         (whole .written ∙ ap (λ (s : List Bool). bytes (length message) s ++ drop (length message) lent) (crypts began true (bits message)))
         (stored ∙ ap (λ (s : List Bool). take (length message) out ++ (plain.bytes (tagSize w) s ++ drop (tagSize w) (drop (length message) out))) (tag-number began w message done (seal-legal .0 .tagFits) (whole .engine) tagged))
-        ∙ sym (sealed-settled w key nonce message lent ∙ ap (λ (d : Check). settled d (payload w key nonce message) lent) (sym (checks .checked) ∙ e))
+        ∙ settled-success (sealingJudgement w key nonce message lent) (payload w key nonce message) lent (sealed-settled w key nonce message lent) (sym (checks .checked) ∙ e)
       where
         whole : CryptsAll First true true (stateOf b) message lent out done
         whole =
@@ -205,8 +205,7 @@ module _ {key nonce message lent : List ℕ} {c : Check} (checks : CryptChecked 
   settles-crypt = ap (λ (d : Check). settled d (grain128a.withKeystream key nonce message) lent) (sym (checks .checked))
 
   pub crypt-failed : {r : Refusal} → c ≡ Failed r → outcome (Refused r) lent ≡ crypted key nonce message lent
-  unfolding settled
-  crypt-failed e = sym (settles-crypt ∙ ap (λ (d : Check). settled d (grain128a.withKeystream key nonce message) lent) e)
+  crypt-failed e = settled-failed c (grain128a.withKeystream key nonce message) lent settles-crypt e
 
   module _ (e : c ≡ Passed) where
     pub crypt-legal : LegalUnauthenticated key nonce message × (length message ≤ length lent)
@@ -214,12 +213,11 @@ module _ {key nonce message lent : List ℕ} {c : Check} (checks : CryptChecked 
 
     pub crypt-passed : {g : Generator Bool} {out : List ℕ} → g ≡ warmed key nonce → out ≡ withKeystream First 1 g (take (length lent) message) ++ drop (length (take (length lent) message)) lent
         → outcome (Count (length message)) out ≡ crypted key nonce message lent
-    unfolding settled
     crypt-passed {g} {out} warm written =
         ap₂ outcome (ap Count (sym (length-added key nonce message)))
         (whole
         ∙ ap₂ (λ (s : List ℕ) (k : ℕ). s ++ drop k lent) (ap (λ (h : Generator Bool). withKeystream First 1 h message) warm ∙ added key nonce message) (sym (length-added key nonce message)))
-        ∙ sym (settles-crypt ∙ ap (λ (d : Check). settled d (grain128a.withKeystream key nonce message) lent) e)
+        ∙ settled-success c (grain128a.withKeystream key nonce message) lent settles-crypt e
       where
         whole : out ≡ withKeystream First 1 g message ++ drop (length message) lent
         whole = rw (take-all (length lent) message (crypt-legal .1)) at written

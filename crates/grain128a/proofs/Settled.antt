@@ -1,6 +1,6 @@
 -- The calls by the rows before the tag's, with the tag's row behind them.
 -- Assumes nothing.
-use mathlib.Core.Path.{_≡_, sym, ap, _∙_}
+use mathlib.Core.Path.{_≡_, refl, ap}
 use mathlib.Core.Bool.{Bool, false}
 use mathlib.Core.List.{List}
 use Prim.Native.Nat.{ℕ, _+_, _-_}
@@ -11,9 +11,8 @@ use Rattle.refusals.specs.declared.Check.{Check}
 use Rattle.refusals.specs.declared.Check.the-variants.{Passed}
 use Rattle.refusals.specs.Refusals.{among, after, check}
 use Rattle.refusals.specs.Outcome.{settled, judged}
-use Rattle.refusals.proofs.LastRow.{after-false, check-last}
 use Rattle.limits.specs.Limits.{messageLimit}
-use Rattle.checks.proofs.Demand1.{passed-quiet, quiet-passed}
+use Rattle.checks.proofs.TagRow.{TagLast, check-rows, all-rows, passed-quiet, quiet-passed}
 use Rattle.mode_checks.specs.Order.{common, beforeTag, authenticated}
 use Rattle.mode_checks.specs.Rows.{commonRows, authenticatedRows}
 use Rattle.mode_checks.proofs.Rows.{tabled, AuthenticatedClear, authenticated-clear, clear-authenticated}
@@ -25,24 +24,15 @@ abbrev pub judgement : (w : ℕ) → (key nonce : List ℕ) → (tooLong tooShor
 judgement w key nonce tooLong tooShort noRoom = check beforeTag (among (authenticatedRows key nonce w tooLong tooShort noRoom false))
 
 module _ (w : ℕ) (key nonce : List ℕ) (tooLong tooShort noRoom : Bool) where
-  check-rows : (differs : Bool) → check authenticated (among (authenticatedRows key nonce w tooLong tooShort noRoom differs)) ≡ after (judgement w key nonce tooLong tooShort noRoom) TagDiffers differs
+  tag-last : TagLast beforeTag authenticated (authenticatedRows key nonce w tooLong tooShort noRoom) (judgement w key nonce tooLong tooShort noRoom)
   unfolding authenticated beforeTag common authenticatedRows commonRows among check
-  check-rows differs = check-last beforeTag TagDiffers (among (authenticatedRows key nonce w tooLong tooShort noRoom differs))
-
-  -- They pass exactly when none of them applies.
-  all-rows : check authenticated (among (authenticatedRows key nonce w tooLong tooShort noRoom false)) ≡ judgement w key nonce tooLong tooShort noRoom
-  all-rows = check-rows false ∙ after-false _ TagDiffers
+  tag-last = record { ordered = refl; listed = tabled key nonce .authenticated w tooLong tooShort noRoom; front = λ differs. refl; last = λ differs. refl }
 
   pub passed-clear : judgement w key nonce tooLong tooShort noRoom ≡ Passed → AuthenticatedClear key nonce w tooLong tooShort noRoom false
-  passed-clear e =
-      authenticated-clear key nonce w tooLong tooShort noRoom false
-      (passed-quiet authenticated (authenticatedRows key nonce w tooLong tooShort noRoom false) (tabled key nonce .authenticated w tooLong tooShort noRoom false) (all-rows ∙ e))
+  passed-clear e = authenticated-clear key nonce w tooLong tooShort noRoom false (passed-quiet tag-last e)
 
   pub clear-passed : AuthenticatedClear key nonce w tooLong tooShort noRoom false → judgement w key nonce tooLong tooShort noRoom ≡ Passed
-  clear-passed clear =
-      sym all-rows
-      ∙ quiet-passed authenticated (authenticatedRows key nonce w tooLong tooShort noRoom false) (tabled key nonce .authenticated w tooLong tooShort noRoom false)
-      (clear-authenticated key nonce w tooLong tooShort noRoom false clear)
+  clear-passed clear = quiet-passed tag-last (clear-authenticated key nonce w tooLong tooShort noRoom false clear)
 
 abbrev pub sealingJudgement : (w : ℕ) → (key nonce message out : List ℕ) → Check
 sealingJudgement w key nonce message out = judgement w key nonce (ltb messageLimit (length message)) false (ltb (length out) (length message + tagSize w))
@@ -53,9 +43,9 @@ openingJudgement w key nonce input out =
 
 pub sealed-settled : (w : ℕ) (key nonce message out : List ℕ) → sealed w key nonce message out ≡ settled (sealingJudgement w key nonce message out) (payload w key nonce message) out
 unfolding sealed judged
-sealed-settled w key nonce message out = ap (λ (c : Check). settled c (payload w key nonce message) out) (all-rows w key nonce _ _ _)
+sealed-settled w key nonce message out = ap (λ (c : Check). settled c (payload w key nonce message) out) (all-rows (tag-last w key nonce _ _ _))
 
 pub opened-settled : (w : ℕ) (key nonce input out : List ℕ)
     → opened w key nonce input out ≡ settled (after (openingJudgement w key nonce input out) TagDiffers (tagDiffers w key nonce input)) (recovered w key nonce input) out
 unfolding opened judged
-opened-settled w key nonce input out = ap (λ (c : Check). settled c (recovered w key nonce input) out) (check-rows w key nonce _ _ _ (tagDiffers w key nonce input))
+opened-settled w key nonce input out = ap (λ (c : Check). settled c (recovered w key nonce input) out) (check-rows (tag-last w key nonce _ _ _) (tagDiffers w key nonce input))

@@ -17,7 +17,8 @@ use Rattle.refusals.specs.declared.Check.the-variants.{Passed, Failed}
 use Rattle.refusals.specs.declared.Refusal.{Refusal}
 use Rattle.refusals.specs.declared.Refusal.the-variants.{TagDiffers}
 use Rattle.refusals.specs.declared.Answer.the-variants.{Count, Refused}
-use Rattle.refusals.specs.Outcome.{outcome, settled}
+use Rattle.refusals.specs.Outcome.{outcome}
+use Rattle.refusals.proofs.LastRow.{settled-failed, settled-success}
 use Rattle.tagged.proofs.Parts.{length-ciphertextPart, tagPart-bytes}
 use Rattle.tagged.proofs.Entry.{sealed-output, same-number, same-tag}
 use Rattle.tagged.proofs.Entry as anyEntry
@@ -66,8 +67,7 @@ pub record SealChecked (key nonce ad message lent : List ℕ) (c : Check) : Type
 
 module _ {key nonce ad message lent : List ℕ} {c : Check} (checks : SealChecked key nonce ad message lent c) where
   pub seal-failed : (ed : Edition) {r : Refusal} → c ≡ Failed r → outcome (Refused r) lent ≡ sealed ed key nonce ad message lent
-  unfolding settled
-  seal-failed ed e = sym (sealed-settled ed key nonce ad message lent ∙ ap (λ (d : Check). settled d (payload ed key nonce ad message) lent) (sym (checks .checked) ∙ e))
+  seal-failed ed e = settled-failed (sealingJudgement key nonce ad message lent) (payload ed key nonce ad message) lent (sealed-settled ed key nonce ad message lent) (sym (checks .checked) ∙ e)
 
   module _ (e : c ≡ Passed) where
     pub seal-clear : NoneApplies adLimit key nonce ad (ltb messageLimit (length message)) false (ltb (length lent) (length message + tagSize)) false
@@ -80,12 +80,12 @@ module _ {key nonce ad message lent : List ℕ} {c : Check} (checks : SealChecke
         → bytes 8 (word 64 t) ≡ bytesIn (done .edition) 8 (run (stateOf done) (true ∷ []) .authenticator .accumulator)
         → written ≡ take (length message) out ++ (bytes 8 (word 64 t) ++ drop 8 (drop (length message) out))
         → outcome (Count (length message + tagSize)) written ≡ sealed ed key nonce ad message lent
-    unfolding ciphertext payload settled
+    unfolding ciphertext payload
     seal-passed ed b done t {out} {written} began crypted tagged stored =
         sealed-output (cipher ed key nonce ad) (sound ed key nonce ad) message lent out written
         (whole .written ∙ ap (λ (st : State). bytesIn ed (length message) (crypt true st (bitsIn ed message)) ++ drop (length message) lent) began)
         (stored ∙ ap (λ (s : List ℕ). take (length message) out ++ (s ++ drop 8 (drop (length message) out))) (tag-word ed key nonce ad message done t (whole .engine ∙ ap (λ (st : State). run st (bitsIn ed message)) began) tagged))
-        ∙ sym (sealed-settled ed key nonce ad message lent ∙ ap (λ (d : Check). settled d (payload ed key nonce ad message) lent) (sym (checks .checked) ∙ e))
+        ∙ settled-success (sealingJudgement key nonce ad message lent) (payload ed key nonce ad message) lent (sealed-settled ed key nonce ad message lent) (sym (checks .checked) ∙ e)
       where
         whole : CryptsAll ed true true (stateOf b) message lent out done
         whole =

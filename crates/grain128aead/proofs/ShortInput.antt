@@ -15,7 +15,8 @@ use Rattle.payload.specs.Sizes.{tagSize}
 use Rattle.limits.specs.Limits.{messageLimit}
 use Rattle.grain128aead.specs.Calls.{recovered, tagDiffers}
 use Rattle.grain128aead.specs.Demand1.{ShortInput}
-use Rattle.grain128aead.proofs.Settled.{judgement, openingJudgement, check-rows, passed-clear, opened-settled}
+use Rattle.checks.proofs.TagRow.{check-rows}
+use Rattle.grain128aead.proofs.Settled.{judgement, openingJudgement, tag-last, passed-clear, opened-settled}
 
 pub short-input : ShortInput
 unfolding judged
@@ -24,7 +25,7 @@ short-input ed key nonce ad input out h wrongTag message =
     ∙ ap (λ (c : Check). settled (after c TagDiffers (tagDiffers ed key nonce ad input)) (recovered ed key nonce ad input) out) sizes
     ∙ settled-earlier (judgement key nonce ad false true false) TagDiffers (tagDiffers ed key nonce ad input) wrongTag (recovered ed key nonce ad input) message out
     (λ e. true≢false (passed-clear key nonce ad false true false e .reaches))
-    ∙ sym (ap (λ (c : Check). settled c message out) (check-rows key nonce ad false true false wrongTag))
+    ∙ sym (ap (λ (c : Check). settled c message out) (check-rows (tag-last key nonce ad false true false) wrongTag))
   where
     sizes : openingJudgement key nonce ad input out ≡ judgement key nonce ad false true false
     sizes = simp (le-ltb (messageLimit + tagSize) (length input) (omega arith), lt-ltb (length input) tagSize h, le-ltb (length out) (length input - tagSize) (omega arith))

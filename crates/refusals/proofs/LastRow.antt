@@ -8,7 +8,8 @@ use Rattle.refusals.specs.declared.Refusal.{Refusal}
 use Rattle.refusals.specs.declared.Check.{Check}
 use Rattle.refusals.specs.declared.Check.the-variants.{Passed, Failed}
 use Rattle.refusals.specs.Refusals.{after, check}
-use Rattle.refusals.specs.Outcome.{settled, refused, success}
+use Rattle.refusals.specs.declared.Answer.the-variants.{Refused}
+use Rattle.refusals.specs.Outcome.{Outcome, outcome, settled, refused, success}
 use Rattle.refusals.specs.Demand1.{Accepts}
 use Rattle.refusals.proofs.Demand1.{passed-not-failed, count-not-refused}
 use Rattle.refusals.proofs.Rows.{check-in-order}
@@ -26,6 +27,15 @@ pub settled-passed : (c : Check) (written out : List ℕ) → Accepts (settled c
 unfolding settled
 settled-passed Passed written out a = refl
 settled-passed (Failed q) written out a = absurd (count-not-refused (a .1) refl)
+
+-- What is settled by a check that failed, and by one that passed.
+pub settled-failed : (c : Check) (written out : List ℕ) {o : Outcome} {r : Refusal} → o ≡ settled c written out → c ≡ Failed r → outcome (Refused r) out ≡ o
+unfolding settled
+settled-failed c written out settles failed = sym (settles ∙ ap (λ (d : Check). settled d written out) failed)
+
+pub settled-success : (c : Check) (written out : List ℕ) {o : Outcome} → o ≡ settled c written out → c ≡ Passed → success written out ≡ o
+unfolding settled
+settled-success c written out settles passed = sym (settles ∙ ap (λ (d : Check). settled d written out) passed)
 
 pub check-last : (rs : List Refusal) (r : Refusal) (applies : Refusal → Bool) → check (rs ++ (r ∷ [])) applies ≡ after (check rs applies) r (applies r)
 check-last rs r applies =

@@ -5,7 +5,10 @@ use mathlib.Core.Bool.{Bool}
 use mathlib.Core.List.{List, _++_, append-assoc}
 use Prim.Native.Nat.{ℕ, _+_, _-_, _*_, _%_, _^_, _≤_, _<_}
 use native.Mathlib.Nat.{mod-eq-of-lt, lt-of-lt-of-le}
+use native.Mathlib.Decide.{decLt}
 use native.Mathlib.Omega.{arith}
+use borrow.Author.Tests.{lt-ltb, le-ltb}
+use lib.Dec.{ltb}
 use lib.Pow.{pow-mono}
 use lib.ListN.{length, take, drop}
 use lib.Seq.{take-at, drop-at, drop-drop}
@@ -20,6 +23,7 @@ use Rattle.refusals.specs.declared.Check.the-variants.{Passed, Failed}
 use Rattle.refusals.specs.declared.Answer.the-variants.{Count, Refused}
 use Rattle.refusals.specs.Refusals.{after}
 use Rattle.refusals.specs.Outcome.{Outcome, outcome, success, settled}
+use Rattle.refusals.proofs.LastRow.{settled-failed}
 use Rattle.tagged.specs.Cipher.{Cipher, Sound}
 use Rattle.tagged.specs.Payload.{payload, recovered, tagDiffers}
 use Rattle.tagged.proofs.Opening.{Authentic, length-payload, length-authentic, verdict}
@@ -46,6 +50,10 @@ sealed-output c sound message lent out written first second = ap₂ outcome (ap 
         (ap (drop (c .size)) behind ∙ drop-drop (c .size) (length message) lent ∙ ap (λ (k : ℕ). drop k lent) (sym (length-payload c sound message)))
         ∙ sym (append-assoc x t (drop (length (x ++ t)) lent))
 
+-- No room for the message, tested without a difference.
+pub no-room : (size room n : ℕ) → ltb (room + size) n ≡ ltb room (n - size)
+no-room size room n = elim (decLt (room + size) n) [ yes h ↦ lt-ltb (room + size) n h ∙ sym (lt-ltb room (n - size) (omega arith)) | no h ↦ le-ltb (room + size) n (omega arith) ∙ sym (le-ltb room (n - size) (omega arith)) ]
+
 -- The received tag, of eight bytes at most, is the computed one exactly when their words are the same number.
 module _ (size : ℕ) (received : List ℕ) (computed : List Bool) (r n : ℕ) (most : size ≤ 8) (sized : length received ≡ size) (isBytes : Bytes received)
     (long : length computed ≡ 8 * size) (small : r < 2 ^ (8 * size)) (spells : n ≡ value (bits received) % 2 ^ 64) (tagged : word (8 * size) r ≡ computed) where
@@ -68,8 +76,7 @@ module _ (size : ℕ) (received : List ℕ) (computed : List Bool) (r n : ℕ) (
 module _ (c : Cipher) (input out : List ℕ) (j : Check) (o : Outcome)
     (settles : o ≡ settled (after j TagDiffers (tagDiffers c input)) (recovered c input) out) where
   pub open-failed : {r : Refusal} → j ≡ Failed r → outcome (Refused r) out ≡ o
-  unfolding settled
-  open-failed failed = sym (settles ∙ ap (λ (k : Check). settled (after k TagDiffers (tagDiffers c input)) (recovered c input) out) failed)
+  open-failed failed = settled-failed _ (recovered c input) out settles (ap (λ (k : Check). after k TagDiffers (tagDiffers c input)) failed)
 
   module _ (passed : j ≡ Passed) where
     pub open-passed : Sound c → Authentic c input → {written : List ℕ} → written ≡ recovered c input ++ drop (length (recovered c input)) out

@@ -3,9 +3,7 @@
 use mathlib.Core.Path.{_≡_, sym, ap, _∙_, subst}
 use mathlib.Core.List.{List}
 use Prim.Native.Nat.{ℕ, _+_, _-_}
-use native.Mathlib.Decide.{decLt}
 use native.Mathlib.Omega.{arith}
-use borrow.Author.Tests.{lt-ltb, le-ltb}
 use lib.Dec.{ltb}
 use lib.ListN.{length}
 use Rattle.bits.specs.Bytes.{Bytes}
@@ -15,6 +13,7 @@ use Rattle.refusals.specs.Outcome.{Outcome}
 use Rattle.limits.specs.Limits.{messageLimit}
 use Rattle.checks.specs.Demand1.{Demand1}
 use Rattle.mode_checks.specs.Order.{authenticated}
+use Rattle.tagged.proofs.Entry.{no-room}
 use Rattle.grain128a.specs.Payload.{tagSize}
 use Rattle.grain128a.specs.Calls.{openingRows, recovered, opened}
 use Rattle.grain128a.specs.Demand2.{Demand2}
@@ -46,14 +45,10 @@ called w key nonce input out b e = (
   ),
 )
 
--- No room for the message, tested without a difference.
-no-room : (a n s : ℕ) → ltb (a + s) n ≡ ltb a (n - s)
-no-room a n s = elim (decLt (a + s) n) [ yes h ↦ lt-ltb (a + s) n h ∙ sym (lt-ltb a (n - s) (omega arith)) | no h ↦ le-ltb (a + s) n (omega arith) ∙ sym (le-ltb a (n - s) (omega arith)) ]
-
 sized : (w : ℕ) (key nonce input lent : List ℕ) (size : ℕ) {c : Check} → size ≡ tagSize w
     → c ≡ judgement w key nonce (ltb (messageLimit + size) (length input)) (ltb (length input) size) (ltb (length lent + size) (length input)) → c ≡ openingJudgement w key nonce input lent
 sized w key nonce input lent size s e =
-    e ∙ ap (judgement w key nonce (ltb (messageLimit + size) (length input)) (ltb (length input) size)) (no-room (length lent) (length input) size)
+    e ∙ ap (judgement w key nonce (ltb (messageLimit + size) (length input)) (ltb (length input) size)) (no-room size (length lent) (length input))
     ∙ ap (λ (k : ℕ). judgement w key nonce (ltb (messageLimit + k) (length input)) (ltb (length input) k) (ltb (length lent) (length input - k))) s
 
 checked : (j : tie.After-judge-authenticated) →

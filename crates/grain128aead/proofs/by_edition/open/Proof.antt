@@ -3,16 +3,15 @@
 use mathlib.Core.Path.{_≡_, sym, ap, _∙_, subst}
 use mathlib.Core.List.{List}
 use Prim.Native.Nat.{ℕ, _+_, _-_}
-use native.Mathlib.Decide.{decLt}
 use native.Mathlib.Omega.{arith}
 use borrow.Author.Needs.{needs}
-use borrow.Author.Tests.{lt-ltb, le-ltb}
 use lib.Dec.{ltb}
 use lib.ListN.{length}
 use Rattle.bits.specs.Bytes.{Bytes}
 use Rattle.refusals.specs.declared.Check.{Check}
 use Rattle.refusals.specs.Outcome.{Outcome}
 use Rattle.machine.specs.declared.edition.Edition.{Edition}
+use Rattle.tagged.proofs.Entry.{no-room}
 use Rattle.payload.specs.Sizes.{tagSize}
 use Rattle.limits.specs.Limits.{messageLimit}
 use Rattle.grain128aead.specs.Sizes.{adLimit}
@@ -48,12 +47,8 @@ called ed key nonce ad input out b e = (
   ),
 )
 
--- No room for the message, tested without a difference.
-no-room : (a n : ℕ) → ltb (a + 8) n ≡ ltb a (n - 8)
-no-room a n = elim (decLt (a + 8) n) [ yes h ↦ lt-ltb (a + 8) n h ∙ sym (lt-ltb a (n - 8) (omega arith)) | no h ↦ le-ltb (a + 8) n (omega arith) ∙ sym (le-ltb a (n - 8) (omega arith)) ]
-
 sized : (key nonce ad input lent : List ℕ) {c : Check} → c ≡ judgement key nonce ad (ltb (messageLimit + tagSize) (length input)) (ltb (length input) tagSize) (ltb (length lent + 8) (length input)) → c ≡ openingJudgement key nonce ad input lent
-sized key nonce ad input lent e = e ∙ ap (judgement key nonce ad (ltb (messageLimit + tagSize) (length input)) (ltb (length input) tagSize)) (no-room (length lent) (length input))
+sized key nonce ad input lent e = e ∙ ap (judgement key nonce ad (ltb (messageLimit + tagSize) (length input)) (ltb (length input) tagSize)) (no-room tagSize (length lent) (length input))
 
 checked : (j : tie.After-judge) →
     let a = j .before .before .before .before .before .before .args in
