@@ -12,7 +12,7 @@ include outside.mk
 all: have-rt have-cc have-rustc
 	rt check
 	mkdir -p build
-	cp target/bin/vectors target/bin/editions target/bin/engines build/
+	cp target/bin/vectors target/bin/table3 target/bin/editions target/bin/engines build/
 	@$(MAKE) --no-print-directory outside-build demo
 
 test: have-rt
