@@ -20,7 +20,7 @@ use Rattle.tagged.specs.Cipher.{Sound}
 use Rattle.grain128a.specs.Bits.{bits}
 use Rattle.grain128a.specs.StartUp.{initialised}
 use Rattle.grain128a.specs.Payload.{authenticated, ciphertext, deciphered, tagSize, pad, tagBits, tag, cipher, payload, withKeystream}
-use Rattle.grain128a.specs.Laws.{Lengths, Distinct}
+use Rattle.grain128a.specs.Laws.{Lengths, FewestBytes, Distinct}
 use Rattle.grain128a.proofs.StartUp.{initialised-sized}
 
 pub sound : (w : ℕ) (key nonce : List ℕ) → Sound (cipher w key nonce)
@@ -66,6 +66,9 @@ lengths w key nonce message =
       payload = length-append (ciphertext key nonce message) (tag w key nonce message) ∙ ap₂ _+_ (s .lengthCiphertext message) (s .lengthTag message);
       withKeystream = length-flipIn First message _;
     }
+
+pub fewest-bytes : FewestBytes
+fewest-bytes w = (omega arith, omega arith)
 
 -- What stands before the final 1 is the message.
 pub distinct : Distinct

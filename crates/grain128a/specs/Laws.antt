@@ -12,7 +12,7 @@ use Rattle.machine.specs.Laws.{Sized}
 use Rattle.key.specs.Sizes.{keySize, nonceSize}
 use Rattle.grain128a.specs.Bits.{bits}
 use Rattle.grain128a.specs.StartUp.{warmed, preoutputOf, initialised}
-use Rattle.grain128a.specs.Payload.{authenticated, ciphertext, tagSize, tagBits, tag, payload, withKeystream}
+use Rattle.grain128a.specs.Payload.{authenticated, ciphertext, tagSize, pad, tagBits, tag, payload, withKeystream}
 
 -- y_i of the source document: the pre-output of clock i after start-up.
 abbrev pub y : (key nonce : List ℕ) → (i : ℕ) → Bool
@@ -41,6 +41,10 @@ pub record Lengths (w : ℕ) (key nonce message : List ℕ) : Type 0 where
   pub tag : length (tag w key nonce message) ≡ tagSize w
   pub payload : length (payload w key nonce message) ≡ length message + tagSize w
   pub withKeystream : length (withKeystream key nonce message) ≡ length message
+
+-- A tag's bits take the fewest whole bytes: fewer than eight bits are left in the last.
+abbrev pub FewestBytes : Type 0
+FewestBytes = (w : ℕ) → (w + pad w ≡ 8 * tagSize w) × (pad w < 8)
 
 -- Messages that make the same authenticated string are the same.
 abbrev pub Distinct : Type 0
