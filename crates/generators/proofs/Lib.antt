@@ -1,0 +1,9 @@
+pub mod Sizes
+pub mod Spaced
+pub mod Runs
+pub mod Listed
+pub mod Below
+pub mod ClocksStroked
+pub mod Windows
+pub mod FunctionBits
+pub mod Keystream

@@ -1,0 +1,6 @@
+pub mod Algebra
+pub mod Functions
+pub mod Generator
+pub mod Running
+pub mod Strokes
+pub mod Keystream
