@@ -6,6 +6,7 @@ pub mod Lowest
 pub mod Packing
 pub mod Flip
 pub mod Spelling
+pub mod Added
 pub mod Exchange
 pub mod Evens
 pub mod Moved

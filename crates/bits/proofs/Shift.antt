@@ -25,6 +25,10 @@ shift-all [] (x ∷ s) h = absurd (not-suc-le-zero h)
 shift-all (a ∷ r) (x ∷ s) h =
     shift-all (r ++ (x ∷ [])) s (omega (arith, length-append r (x ∷ []))) ∙ ap (drop (length s)) (append-assoc r (x ∷ []) s)
 
+-- They stand behind the places that are left.
+pub shifted : {A : Type 0} (n : ℕ) (r s : List A) → length s ≡ n → n ≤ length r → foldl shift r s ≡ drop n r ++ s
+shifted n r s e h = shift-all r s (omega arith) ∙ ap (λ (k : ℕ). drop k (r ++ s)) e ∙ drop-append-le n r s h
+
 -- They are then the register's last places.
 pub shifted-in : {A : Type 0} (k : ℕ) (r s : List A) → length r ≡ k + length s → drop k (foldl shift r s) ≡ s
 shifted-in k r s e =

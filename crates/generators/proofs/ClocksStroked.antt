@@ -37,7 +37,7 @@ stroked-agrees by n u v u′ v′ g eu ev = λ j. record { lfsr = foldl shift (g
     nfsrBits = listed-agrees n (nfsrBitAt by g v) (nfsrBitAt by g v′) (λ i h. ap (nfsrBit by (later (g .lfsr) i) (later (g .nfsr) i)) (ev i h))
 
 -- All pre-outputs are what plain clocks shift out.
-clocks-every : (by : Functions single) (n : ℕ) (r : Running) → clocks by n (given []) (given []) r .outputs ≡ foldl shift (r .outputs) (every by 1 n (r .generator))
+pub clocks-every : (by : Functions single) (n : ℕ) (r : Running) → clocks by n (given []) (given []) r .outputs ≡ foldl shift (r .outputs) (every by 1 n (r .generator))
 unfolding clocks next every times
 clocks-every by zero r = refl
 clocks-every by (suc n) r = clocks-every by n (next by (λ y. false) (λ y. false) r)

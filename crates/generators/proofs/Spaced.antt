@@ -3,10 +3,11 @@
 use mathlib.Core.Path.{_≡_, refl, sym, ap, _∙_}
 use mathlib.Core.Bool.{Bool, false}
 use mathlib.Core.List.{List, _∷_, _++_}
-use Prim.Native.Nat.{ℕ, zero, suc, _+_, _*_, _<_}
+use Prim.Native.Nat.{ℕ, zero, suc, _+_, _-_, _*_, _<_, _≤_}
 use native.Mathlib.Nat.{mul-zero, zero-add, suc-add, le-of-suc-le-suc, not-suc-le-zero}
 use native.Mathlib.Omega.{arith}
-use lib.ListN.{length, getD}
+use lib.ListN.{length, getD, take}
+use lib.Seq.{take-at}
 use Rattle.bits.specs.Times.{times}
 use Rattle.bits.proofs.Times.{times-add}
 use Rattle.generators.specs.Algebra.{single}
@@ -42,3 +43,9 @@ module _ (by : Functions single) (p : ℕ) where
       ap (λ (k : ℕ). every by p k g) (suc-add m n)
       ∙ ap (λ (r : List Bool). preoutput by g ∷ r) (every-append m n (times p (plain by) g))
       ∙ ap (λ (h : Generator Bool). every by p (suc m) g ++ every by p n h) (clocks-more m g)
+
+  -- Those of fewer clocks are the first of them.
+  pub take-every : (m n : ℕ) (g : Generator Bool) → m ≤ n → take m (every by p n g) ≡ every by p m g
+  take-every m n g h =
+      let whole : m + (n - m) ≡ n = omega arith in
+      ap (λ (k : ℕ). take m (every by p k g)) (sym whole) ∙ ap (take m) (every-append m (n - m) g) ∙ take-at (every by p m g) _ m (length-every m g)

@@ -1,5 +1,6 @@
 pub mod Algebra
 pub mod Functions
+pub mod Polynomial
 pub mod Generator
 pub mod Running
 pub mod Strokes

@@ -1,0 +1,22 @@
+-- Start-up of Grain v1 and its keystream (the eSTREAM specification, section 2.1; document 01, "Bits, bytes and sizes", for the order of bits).
+use mathlib.Core.Bool.{Bool, true}
+use mathlib.Core.List.{List, _++_}
+use Prim.Native.Nat.{ℕ}
+use lib.ListN.{replicate}
+use Rattle.bits.specs.Bytes.{bits, flip}
+use Rattle.bits.specs.Times.{times}
+use Rattle.generators.specs.Generator.{Generator, fedBack}
+use Rattle.generators.specs.Keystream.{added}
+use Rattle.grainv1.specs.Functions.{grainv1}
+
+-- The NFSR takes the key, the LFSR the nonce and sixteen ones.
+unfoldable pub loaded : (key nonce : List ℕ) → Generator Bool
+loaded key nonce = record { lfsr = bits nonce ++ replicate 16 true; nfsr = bits key }
+
+-- 160 clocks feed the output back to both registers.
+unfoldable pub started : (key nonce : List ℕ) → Generator Bool
+started key nonce = times 160 (fedBack grainv1) (loaded key nonce)
+
+-- From then on every output is a keystream bit. It is added to the message.
+unfoldable pub withKeystream : (key nonce message : List ℕ) → List ℕ
+withKeystream key nonce message = added grainv1 flip 1 (started key nonce) message

@@ -1,0 +1,44 @@
+// Grain v1: a message with the keystream added. There is no tag.
+mod keystream;
+mod registers;
+mod starting;
+mod stroke;
+mod windows;
+
+ghost use mathlib.Core.Path.{_≡_};
+ghost use Rattle.refusals.specs.Refusals as refusals;
+ghost use Rattle.refusals.specs.Refusals.{among};
+ghost use Rattle.refusals.specs.Outcome.{outcome};
+ghost use Rattle.checks.specs.Demand1.{Demand1};
+ghost use Rattle.grainv1.specs.StartUp.{withKeystream};
+ghost use Rattle.grainv1.specs.Rows.{order, rows};
+ghost use Rattle.grainv1.specs.Calls.{crypted, Crypting};
+use limits::MESSAGE_LIMIT;
+use refusals::Answer;
+use refusals::Check;
+use refusals::Refusal;
+
+// The first row that applies.
+fn judge(key: &[u8], nonce: &[u8], message: &[u8], out: &[u8]) -> Check
+    ensures { λ r. ⌜ r ≡ refusals.check order (among (rows (now (key .entry)) (now (nonce .entry)) (now (message .entry)) (now (out .entry)))) ⌝ }
+{
+    let c = refusals::after(Check::Passed, Refusal::KeySize, key.len() != 10);
+    let c = refusals::after(c, Refusal::NonceSize, nonce.len() != 8);
+    let c = refusals::after(c, Refusal::MessageTooLong, MESSAGE_LIMIT < message.len());
+    refusals::after(c, Refusal::OutputTooShort, out.len() < message.len())
+}
+
+// Adds the keystream: to a message, or to what this call made of one, at the front of the output.
+pub fn crypt(key: &[u8], nonce: &[u8], message: &[u8], out: &mut [u8]) -> Answer
+    ensures crypted { λ r. ⌜ outcome r (now (out .exit)) ≡ crypted (now (key .entry)) (now (nonce .entry)) (now (message .entry)) (now (out .entry)) ⌝ }
+    ensures demand1 { λ r. ⌜ Demand1 order (among (rows (now (key .entry)) (now (nonce .entry)) (now (message .entry)) (now (out .entry)))) (withKeystream (now (key .entry)) (now (nonce .entry)) (now (message .entry))) (now (out .entry)) (outcome r (now (out .exit))) ⌝ }
+    ensures crypting { λ r. ⌜ Crypting (now (key .entry)) (now (nonce .entry)) (now (message .entry)) (now (out .entry)) (outcome r (now (out .exit))) ⌝ }
+{
+    match judge(key, nonce, message, out) {
+        Check::Failed(r) => Answer::Refused(r),
+        Check::Passed => {
+            keystream::add(starting::start(key, nonce), message, out);
+            Answer::Count(message.len())
+        }
+    }
+}
