@@ -3,7 +3,7 @@
 use mathlib.Core.Path.{_≡_, refl, subst}
 use mathlib.Core.Bool.{Bool, true, false}
 use mathlib.Core.List.{List}
-use Prim.Native.Nat.{ℕ, _+_, _^_, _<_}
+use Prim.Native.Nat.{ℕ, _+_, _^_, _<_, _≤_}
 use native.Mathlib.Omega.{arith}
 use lib.Dec.{lit<}
 use lib.ListN.{length}
@@ -22,6 +22,9 @@ use Rattle.grain128a.specs.Payload.{withKeystream}
 use Rattle.grain128a.specs.Payload as tagged
 use Rattle.grain128a.specs.Demand2 as grain128a
 use Rattle.grain128a.proofs.Payload.{lengths}
+use Rattle.untagged.specs.Crypting as untagged
+use Rattle.grainv1.specs.Calls as grainv1
+use Rattle.grainv1.proofs.Calls.{length-withKeystream}
 use Rattle.named_edition.specs.Calls.{InNamed}
 use Rattle.frame_checks.proofs.FieldCodes.{fieldCodes}
 use Rattle.frames.specs.Field.{dataField}
@@ -63,6 +66,15 @@ tagged-open-fits w key nonce input out o d =
 pub crypt-fits : (key nonce message out : List ℕ) (o : Outcome) → grain128a.Crypting key nonce message out o → capped (o .answer) ≡ o .answer
 crypt-fits key nonce message out o s =
     outcome-fits o (λ a. let h = s .accepts .0 a in (withKeystream key nonce message, out, s .crypts (h .0) (h .1), omega (arith, limit-small, h .0 .messageFits, lengths 0 key nonce message .withKeystream)))
+
+-- Of any cipher that adds a keystream to messages up to the limit.
+pub added-fits : (legal : List ℕ → Type 0) (withKeystream : List ℕ → List ℕ) → ((s : List ℕ) → legal s → length s ≤ messageLimit) → ((s : List ℕ) → length (withKeystream s) ≡ length s)
+    → (message out : List ℕ) (o : Outcome) → untagged.Crypting legal withKeystream message out o → capped (o .answer) ≡ o .answer
+added-fits legal withKeystream limited long message out o s =
+    outcome-fits o (λ a. let h = s .accepts .0 a in (withKeystream message, out, s .crypts (h .0) (h .1), omega (arith, limit-small, limited message (h .0), long message)))
+
+pub grainv1-fits : (key nonce message out : List ℕ) (o : Outcome) → grainv1.Crypting key nonce message out o → capped (o .answer) ≡ o .answer
+grainv1-fits key nonce = added-fits (grainv1.Legal key nonce) _ (λ s l. l .messageFits) (length-withKeystream key nonce)
 
 -- In the edition that a number names; where it names none, there is no count.
 pub named-fits : (n : ℕ) (out : List ℕ) (o : Outcome) → (known n ≡ false → refused UnknownEdition out ≡ o) → InNamed n (λ e. capped (o .answer) ≡ o .answer) → capped (o .answer) ≡ o .answer

@@ -2,6 +2,7 @@
 pub mod codes;
 pub mod framing;
 pub mod grain_128a;
+pub mod grain_v1;
 pub mod streaming;
 
 ghost use mathlib.Core.Path.{_≡_};
