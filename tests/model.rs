@@ -1,10 +1,12 @@
-//! An independent implementation of documents 01 and 02, of both editions and of Grain-128a: a byte
-//! for each register bit, and every bit moved at every clock.
+//! An independent implementation of documents 01 and 02, of both editions, of Grain-128a and of
+//! Grain v1: a byte for each register bit, and every bit moved at every clock.
 
 #[path = "model/frames.rs"]
 pub mod frames;
 #[path = "model/grain128a.rs"]
 pub mod grain128a;
+#[path = "model/grainv1.rs"]
+pub mod grainv1;
 #[path = "model/streams.rs"]
 pub mod streams;
 
