@@ -1,7 +1,8 @@
 /*
  * Tikhoplav: Grain-128AEAD, both editions. Sealing and opening of whole byte strings; the two parts of a sealed one;
  * sealed CAN FD frames, and payloads that arrive in pieces, each with a section of its own below. Grain-128a, with and
- * without authentication, has the last section, which says all that is different there.
+ * without authentication, and Grain v1, which is for reading old tags only, have the last two sections, which say all
+ * that is different there.
  *
  * Sealing enciphers a message under a key and a nonce, and appends a tag over the message and its associated data
  * (AD). Opening recomputes the tag, and hands out the message only if the tag is right. The AD is authenticated and
@@ -57,19 +58,19 @@
  *     read, and may overlap one another.)
  *   - A nonce is never used for two sealings under one key. If it is, secrecy is lost, and no call can notice it.
  *     Making a frame is a sealing, and so is a sealing stream.
- *   - A key is used with one cipher, Grain-128AEAD or Grain-128a.
+ *   - A key is used with one cipher, Grain-128AEAD, Grain-128a or Grain v1.
  *   - The key is random and secret. Of the keys that can be guessed the calls notice one, 16 zero bytes (the blank
- *     key), and refuse it.
+ *     key), and refuse it. (That of Grain v1, whose keys have another size, notices none.)
  *
  *   A slice of length 0 may have any pointer, NULL included: nothing is read or written through it. So an empty AD,
  *   message or piece is NULL, 0; and the output of opening or reading an empty message may be NULL, 0.
  *
  * What a call answers
  *
- *   Sealing and opening, making and reading a frame, the calls of Grain-128a: success is the count of bytes written, 0
- *   or more. They stand at the front of `out`; every byte of `out` behind them is untouched. A refusal is one of the
- *   negative numbers below, and then every byte of `out` is as it was before the call. In particular a wrong tag hands
- *   out no bit of the message: nothing is written until the tag is known to be right.
+ *   Sealing and opening, making and reading a frame, the calls of Grain-128a and that of Grain v1: success is the count
+ *   of bytes written, 0 or more. They stand at the front of `out`; every byte of `out` behind them is untouched. A
+ *   refusal is one of the negative numbers below, and then every byte of `out` is as it was before the call. In
+ *   particular a wrong tag hands out no bit of the message: nothing is written until the tag is known to be right.
  *
  *   The calls on streams: success is the clocks so far, 400 or more. A refusal is one of the negative numbers too, and
  *   then every byte of `state` and of `out` is as it was before the call.
@@ -108,6 +109,8 @@
  *
  *   Versions before 3.5.0 have no Grain-128a. What this one seals with it they don't open.
  *
+ *   Versions before 3.6.0 have no Grain v1.
+ *
  * What is not promised
  *
  *   How long a call takes. It grows with the lengths, and opening goes over the ciphertext twice; the tag is made by
@@ -142,7 +145,7 @@
 extern "C" {
 #endif
 
-#define TIKHOPLAV_VERSION "3.5.0"
+#define TIKHOPLAV_VERSION "3.6.0"
 
 /* The editions: Grain-128AEAD and Grain-128AEADv2. */
 #define TIKHOPLAV_EDITION_1 1
@@ -165,16 +168,17 @@ extern "C" {
  * answers -15, and an output that is too short answers -6 even where the tag is wrong too. An unknown edition answers
  * -23 whatever else is wrong. Making and reading a frame have some of these too, and five of their own; the calls on
  * streams have some, and two of their own; the calls of Grain-128a have some, with the sizes of its own tags, and two
- * of their own. The sections on frames, on streams and on Grain-128a have theirs, in the order of their checks.
+ * of their own; that of Grain v1 has four of these, with the sizes of its own key and nonce. The sections on frames, on
+ * streams, on Grain-128a and on Grain v1 have theirs, in the order of their checks.
  */
 
 /* The calls that name an edition only: it is neither TIKHOPLAV_EDITION_1 nor TIKHOPLAV_EDITION_2. */
 #define TIKHOPLAV_REFUSED_UNKNOWN_EDITION (-23)
 
-/* key_len is not TIKHOPLAV_KEY_SIZE. */
+/* key_len is not TIKHOPLAV_KEY_SIZE; with Grain v1, not TIKHOPLAV_GRAINV1_KEY_SIZE. */
 #define TIKHOPLAV_REFUSED_KEY_SIZE (-1)
 
-/* nonce_len is not TIKHOPLAV_NONCE_SIZE. */
+/* nonce_len is not TIKHOPLAV_NONCE_SIZE; with Grain v1, not TIKHOPLAV_GRAINV1_NONCE_SIZE. */
 #define TIKHOPLAV_REFUSED_NONCE_SIZE (-2)
 
 /* The key is blank: all of its 16 bytes are zero, as in a buffer that no key was ever copied to. What to do: for
@@ -906,6 +910,91 @@ int64_t tikhoplav_grain128a_open(const uint8_t *key, size_t key_len, const uint8
  */
 int64_t tikhoplav_grain128a_crypt(const uint8_t *key, size_t key_len, const uint8_t *nonce, size_t nonce_len,
                                   const uint8_t *message, size_t message_len, uint8_t *out, size_t out_len);
+
+/*
+ * Grain v1
+ *
+ *   The cipher of old tags, by the designers' eSTREAM specification. It is here for reading such tags, and never for a
+ *   new design: its keys have 80 bits, which is too few today, and it has no tag of its own, so that it tells nothing
+ *   about damage. What is new takes Grain-128AEAD.
+ *
+ *     key                   TIKHOPLAV_GRAINV1_KEY_SIZE bytes, 10
+ *     nonce                 TIKHOPLAV_GRAINV1_NONCE_SIZE bytes, 8 (the designers say IV)
+ *     message               0 to TIKHOPLAV_MESSAGE_MAX bytes
+ *     what is written       as many bytes as the message has
+ *
+ *   There is no AD, and there are no editions; frames and streams are Grain-128AEAD's alone. The one call,
+ *   tikhoplav_grainv1_crypt, adds the keystream to a message. The same call, with the same key and nonce, on what it
+ *   wrote gives the message back, so it both enciphers and deciphers. Nothing is checked: a bit that is changed in the
+ *   ciphertext is the same bit changed in the message, and a wrong key or nonce gives other bytes and no refusal.
+ *
+ *   `out` overlaps none of the inputs, so nothing is enciphered in place. The call takes at most 2048 bytes of stack,
+ *   as all calls do.
+ *
+ * The order of bits with Grain v1
+ *
+ *   The bits of every byte go from the top bit down, in key, nonce, message and output, as with Grain-128a. The
+ *   designers' vectors have them from the lowest bit up. Whoever has bytes in that order turns round the bits of every
+ *   byte of key, nonce and message before the call, and those of the output after it. So the designers' vector
+ *
+ *     key 01 23 45 67 89 ab cd ef 12 34   nonce 01 23 45 67 89 ab cd ef   keystream 7f 36 2b d3 f7 ab ae 20 36 64
+ *
+ *   is this to the call, and the keystream is what it writes for a message of 10 zero bytes:
+ *
+ *     key 80 c4 a2 e6 91 d5 b3 f7 48 2c   nonce 80 c4 a2 e6 91 d5 b3 f7   keystream fe 6c d4 cb ef d5 75 04 6c 26
+ *
+ * What the call of Grain v1 refuses
+ *
+ *   The checks run in this order, and the first that applies is the answer.
+ *
+ *     KEY_SIZE          -1   key_len is not TIKHOPLAV_GRAINV1_KEY_SIZE
+ *     NONCE_SIZE        -2   nonce_len is not TIKHOPLAV_GRAINV1_NONCE_SIZE
+ *     MESSAGE_TOO_LONG  -4   message_len is over TIKHOPLAV_MESSAGE_MAX
+ *     OUTPUT_TOO_SHORT  -6   out_len is under message_len
+ *
+ *   A key of zeros is let through: the first of the designers' vectors is under it.
+ *
+ * What the caller owes for Grain v1
+ *
+ *   - All that is owed for sealing and opening.
+ *   - A nonce is never used for two messages under one key. To use it again for the message that it was used for is no
+ *     second use.
+ *   - A key of Grain v1 is no part of a key of another cipher.
+ *
+ * A whole program that enciphers and deciphers with Grain v1 (a real key is random and secret)
+ *
+ *     #include <stdio.h>
+ *     #include <tikhoplav.h>
+ *
+ *     int main(void)
+ *     {
+ *         static const uint8_t key[TIKHOPLAV_GRAINV1_KEY_SIZE] = "no key", message[] = "2400 rpm";
+ *         static const uint8_t nonce[TIKHOPLAV_GRAINV1_NONCE_SIZE] = "once";
+ *         uint8_t in_secret[sizeof message], deciphered[sizeof message];
+ *         int64_t n = tikhoplav_grainv1_crypt(key, sizeof key, nonce, sizeof nonce,
+ *                                             message, sizeof message, in_secret, sizeof in_secret);
+ *         if (n >= 0)
+ *             n = tikhoplav_grainv1_crypt(key, sizeof key, nonce, sizeof nonce,
+ *                                         in_secret, sizeof in_secret, deciphered, sizeof deciphered);
+ *         return n < 0 ? (int)-n : puts((const char *)deciphered) == EOF;
+ *     }
+ */
+
+/* Sizes in bytes. A key and a nonce of Grain v1 have exactly these. */
+#define TIKHOPLAV_GRAINV1_KEY_SIZE 10
+#define TIKHOPLAV_GRAINV1_NONCE_SIZE 8
+
+/*
+ * Enciphers message[0 .. message_len - 1] with Grain v1, or deciphers it, which is the same. For reading old tags only.
+ *
+ * Writes message_len bytes to the front of `out`, the message with the keystream added, and answers message_len, which
+ * is 0 for an empty message. Whenever the sizes are legal and out_len is at least message_len, it succeeds.
+ *
+ * Otherwise it answers the first of these that applies, and writes nothing:
+ * KEY_SIZE, NONCE_SIZE, MESSAGE_TOO_LONG, OUTPUT_TOO_SHORT.
+ */
+int64_t tikhoplav_grainv1_crypt(const uint8_t *key, size_t key_len, const uint8_t *nonce, size_t nonce_len,
+                                const uint8_t *message, size_t message_len, uint8_t *out, size_t out_len);
 
 #ifdef __cplusplus
 }

@@ -30,5 +30,6 @@ example 'Example: a whole program'
 example 'A whole program that makes and reads a frame'
 example 'A whole program that seals and checks in pieces'
 example 'A whole program that seals and opens with Grain-128a'
+example 'A whole program that enciphers and deciphers with Grain v1'
 "$prefix/bin/tikhoplav" selftest >"$scratch/selftest" || fail "the installed tool fails its selftest"
 echo "the header's examples build and run, and the tool passes its selftest"
