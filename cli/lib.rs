@@ -4,6 +4,8 @@ pub mod archive;
 pub mod frames;
 pub mod grain128a;
 pub mod grain128a_vectors;
+pub mod grainv1;
+pub mod grainv1_vectors;
 pub mod hex;
 pub mod pieces;
 pub mod sizes;

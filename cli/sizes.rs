@@ -12,6 +12,8 @@ pub const LENGTH_CODE_MAX: u32 = 15;
 pub const FRAME_MAX: usize = 64;
 pub const STATE_SIZE: usize = 64;
 pub const GRAIN128A_TAG_BITS_MAX: u32 = 32;
+pub const GRAINV1_KEY_SIZE: usize = 10;
+pub const GRAINV1_NONCE_SIZE: usize = 8;
 
 /// The bytes that a tag of Grain-128a takes.
 pub const fn grain128a_tag_size(tag_bits: u32) -> usize {

@@ -1,5 +1,5 @@
-//! The archive beside the independent implementation, on seeded random inputs of both editions and of
-//! Grain-128a.
+//! The archive beside the independent implementation, on seeded random inputs of both editions, of
+//! Grain-128a and of Grain v1.
 
 mod ad_lengths;
 mod damage;
@@ -8,6 +8,7 @@ mod equations;
 mod flips;
 mod frames;
 mod grain128a;
+mod grainv1;
 mod judge;
 mod keys;
 mod order;
@@ -98,6 +99,8 @@ fn run(seed: u64) -> Result<usize, String> {
     }
     println!("Grain-128a");
     total += run_groups(&grain128a::GROUPS, 1, seed)?;
+    println!("Grain v1");
+    total += run_groups(&grainv1::GROUPS, 1, seed)?;
     Ok(total)
 }
 
