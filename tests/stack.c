@@ -19,10 +19,12 @@ static uint8_t message[TIKHOPLAV_MESSAGE_MAX], sealed[TIKHOPLAV_SEALED_MAX];
 static uint8_t field[TIKHOPLAV_FRAME_MAX], frame_message[TIKHOPLAV_FRAME_MESSAGE_MAX];
 static uint8_t state[TIKHOPLAV_STATE_SIZE], tag[TIKHOPLAV_TAG_SIZE];
 static uint8_t with_authentication[TIKHOPLAV_NONCE_SIZE] = { 0x80 };
+static uint8_t short_key[TIKHOPLAV_GRAINV1_KEY_SIZE] = { 1 }, short_nonce[TIKHOPLAV_GRAINV1_NONCE_SIZE];
 static int64_t answer;
 
 /* What the next call on a stream is given: the edition, and the length of AD, piece, output or tag. What the next call
-   of Grain-128a is given: the bits of the tag, and the length of message or sealed input. */
+   of Grain-128a is given: the bits of the tag, and the length of message or sealed input. What the next one of Grain v1
+   is given: the length of the message. */
 static uint32_t edition, tag_bits;
 static size_t len;
 
@@ -309,6 +311,27 @@ static void grain128a_crypt_without_room(void)
     answer = tikhoplav_grain128a_crypt(key, sizeof key, nonce, sizeof nonce, ad, len, NULL, 0);
 }
 
+static void grainv1_crypt(void)
+{
+    answer = tikhoplav_grainv1_crypt(short_key, sizeof short_key, short_nonce, sizeof short_nonce, ad, len, sealed,
+                                     sizeof sealed);
+}
+
+static void grainv1_crypt_with_a_long_key(void)
+{
+    answer = tikhoplav_grainv1_crypt(key, sizeof key, short_nonce, sizeof short_nonce, ad, len, sealed, sizeof sealed);
+}
+
+static void grainv1_crypt_with_a_long_nonce(void)
+{
+    answer = tikhoplav_grainv1_crypt(short_key, sizeof short_key, nonce, sizeof nonce, ad, len, sealed, sizeof sealed);
+}
+
+static void grainv1_crypt_without_room(void)
+{
+    answer = tikhoplav_grainv1_crypt(short_key, sizeof short_key, short_nonce, sizeof short_nonce, ad, len, NULL, 0);
+}
+
 typedef struct {
     void (*run)(void);
     int64_t expected;
@@ -443,6 +466,24 @@ static const grain128a_trial grain128a_trials[] = {
     { grain128a_crypt_without_room, 0, 1, TIKHOPLAV_REFUSED_OUTPUT_TOO_SHORT },
 };
 
+typedef struct {
+    void (*run)(void);
+    size_t len;
+    int64_t expected;
+} grainv1_trial;
+
+static const grainv1_trial grainv1_trials[] = {
+    { grainv1_crypt, 0, 0 },
+    { grainv1_crypt, 1, 1 },
+    { grainv1_crypt, 9, 9 },
+    { grainv1_crypt, TIKHOPLAV_MESSAGE_MAX - 1, TIKHOPLAV_MESSAGE_MAX - 1 },
+    { grainv1_crypt, TIKHOPLAV_MESSAGE_MAX, TIKHOPLAV_MESSAGE_MAX },
+    { grainv1_crypt, TIKHOPLAV_MESSAGE_MAX + 1, TIKHOPLAV_REFUSED_MESSAGE_TOO_LONG },
+    { grainv1_crypt_with_a_long_key, 1, TIKHOPLAV_REFUSED_KEY_SIZE },
+    { grainv1_crypt_with_a_long_nonce, 1, TIKHOPLAV_REFUSED_NONCE_SIZE },
+    { grainv1_crypt_without_room, 1, TIKHOPLAV_REFUSED_OUTPUT_TOO_SHORT },
+};
+
 /* The bytes from the lowest one that is not as it was filled up to the top. */
 static size_t used(void (*run)(void))
 {
@@ -513,18 +554,30 @@ static size_t most_of_grain128a(void)
     return most;
 }
 
+static size_t most_of_grainv1(void)
+{
+    size_t i, most = 0;
+
+    for (i = 0; i < sizeof grainv1_trials / sizeof *grainv1_trials; i++) {
+        len = grainv1_trials[i].len;
+        most = larger(most, taken(grainv1_trials[i].run, grainv1_trials[i].expected, "Grain v1", i));
+    }
+    return most;
+}
+
 int main(void)
 {
     const size_t once = sizeof stream_trials / sizeof *stream_trials;
     const size_t each = sizeof stream_trials_of_each_edition / sizeof *stream_trials_of_each_edition;
     size_t others = most_of_trials(), streams = most_of_streams(stream_trials, once, 0);
-    size_t grain128a = most_of_grain128a(), most;
+    size_t grain128a = most_of_grain128a(), grainv1 = most_of_grainv1(), most;
 
     for (edition = TIKHOPLAV_EDITION_1; edition <= TIKHOPLAV_EDITION_2; edition++)
         streams = larger(streams, most_of_streams(stream_trials_of_each_edition, each,
                                                   edition == TIKHOPLAV_EDITION_1 ? 384 : 512));
-    most = larger(others, larger(streams, grain128a));
-    printf("at most %zu bytes; in the calls on streams, %zu; in those of Grain-128a, %zu\n", most, streams, grain128a);
+    most = larger(larger(others, streams), larger(grain128a, grainv1));
+    printf("at most %zu bytes; in the calls on streams, %zu; in those of Grain-128a, %zu; in that of Grain v1, %zu\n",
+           most, streams, grain128a, grainv1);
     if (most > ENOUGH) {
         fprintf(stderr, "tests/stack.c: the header says %d\n", ENOUGH);
         return 1;
