@@ -135,6 +135,8 @@ try-calls:
 	@tests/frames.sh build/tikhoplav include/tikhoplav.h
 	@echo '== the command-line tool with Grain-128a'
 	@tests/grain128a.sh build/tikhoplav include/tikhoplav.h
+	@echo '== the command-line tool with Grain v1'
+	@tests/grainv1.sh build/tikhoplav include/tikhoplav.h
 	@echo '== the installation'
 	@$(MAKE) -s --no-print-directory -f outside.mk install DESTDIR= PREFIX=$(CURDIR)/$(OUT)/installed
 	@tests/installed.sh $(CURDIR)/$(OUT)/installed $(VERSION) $(CC)

@@ -7,11 +7,13 @@ use crate::options::Options;
 pub enum Algorithm {
     Grain128Aead,
     Grain128a,
+    GrainV1,
 }
 
-const NAMED: [(&str, Algorithm); 2] = [
+const NAMED: [(&str, Algorithm); 3] = [
     ("grain-128aead", Algorithm::Grain128Aead),
     ("grain-128a", Algorithm::Grain128a),
+    ("grain-v1", Algorithm::GrainV1),
 ];
 
 impl Algorithm {
@@ -23,7 +25,7 @@ impl Algorithm {
         match NAMED.iter().find(|(name, _)| value == *name) {
             Some((_, algorithm)) => Ok(Some(*algorithm)),
             None => Err(Failure::Usage(format!(
-                "--cipher: '{}' is neither grain-128aead nor grain-128a",
+                "--cipher: '{}' is none of grain-128aead, grain-128a and grain-v1",
                 value.display()
             ))),
         }

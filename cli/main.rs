@@ -10,6 +10,7 @@ mod frame;
 mod frame_checks;
 mod frame_job;
 mod grain128a_checks;
+mod grainv1_checks;
 mod inputs;
 mod job;
 mod notation;
@@ -31,6 +32,7 @@ use std::ffi::OsString;
 use std::process::ExitCode;
 use tikhoplav::archive::Call;
 use tikhoplav::sizes::{AD_MAX, FRAME_MESSAGE_MAX, GRAIN128A_TAG_BITS_MAX};
+use tikhoplav::sizes::{GRAINV1_KEY_SIZE, GRAINV1_NONCE_SIZE};
 use tikhoplav::sizes::{IDENTIFIER_MAX, MESSAGE_MAX, SEALED_MAX};
 
 const VERSION: &str = concat!("tikhoplav ", env!("TIKHOPLAV_VERSION"), "\n");
@@ -45,6 +47,8 @@ fn help() -> String {
         IDENTIFIER_MAX = IDENTIFIER_MAX,
         FRAME_MESSAGE_MAX = FRAME_MESSAGE_MAX,
         TAG_BITS_MAX = GRAIN128A_TAG_BITS_MAX,
+        V1_KEY_SIZE = GRAINV1_KEY_SIZE,
+        V1_NONCE_SIZE = GRAINV1_NONCE_SIZE,
         PIECE = streams::PIECE
     )
 }

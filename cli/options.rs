@@ -95,7 +95,8 @@ impl Options {
                 let value = present(option, value, attached.is_some())?;
                 options.values.insert(option, value.to_owned()).is_none()
             } else {
-                return usage(unknown(known, name));
+                let value = attached.or_else(|| rest.next().map(OsString::as_os_str));
+                return usage(unknown(known, name, value));
             };
             if !fresh {
                 return usage(format!("{} is given twice", name.display()));
@@ -145,9 +146,12 @@ fn present<'a>(name: &str, value: Option<&'a OsStr>, attached: bool) -> Result<&
     }
 }
 
-fn unknown(known: &Known, name: &OsStr) -> String {
+fn unknown(known: &Known, name: &OsStr, value: Option<&OsStr>) -> String {
     if let Some((name, why)) = known.elsewhere.iter().find(|(option, _)| name == *option) {
-        return format!("{name}: {why}");
+        return match value {
+            Some(cipher) if cipher == "grain-v1" => format!("{name}: {why}; grain-v1 has no tag"),
+            _ => format!("{name}: {why}"),
+        };
     }
     let kind = if name.as_bytes().starts_with(b"-") {
         "unknown option"

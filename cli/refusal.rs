@@ -6,6 +6,7 @@ use tikhoplav::archive::Call;
 use tikhoplav::frames;
 use tikhoplav::sizes::{grain128a_tag_size, GRAIN128A_TAG_BITS_MAX};
 use tikhoplav::sizes::{AD_MAX, FRAME_MESSAGE_MAX, IDENTIFIER_MAX, KEY_SIZE};
+use tikhoplav::sizes::{GRAINV1_KEY_SIZE, GRAINV1_NONCE_SIZE};
 use tikhoplav::sizes::{MESSAGE_MAX, NONCE_SIZE, SEALED_MAX, TAG_SIZE};
 
 const WRONG_TAG: &str = "the tag is wrong: the key, the nonce, the associated data or the sealed \
@@ -41,6 +42,8 @@ const NONCE_OF_SEALING: &str =
 const NONCE_OF_CRYPT: &str =
     "bit 0 of the nonce, the top bit of its first byte, is 1, and must be 0 \
     for crypt (seal and open take the others)";
+
+const OUTPUT_TOO_SHORT: &str = "the output is too short";
 
 /// Such versions coded an AD length of 128 to 255 in another way.
 const SEALED_BEFORE: &str =
@@ -87,12 +90,25 @@ pub fn of_grain128a(call: Call, inputs: &Tagged, number: u8) -> String {
     }
 }
 
-/// What is wrong with the inputs of `crypt`.
+/// What is wrong with the inputs of `crypt` with Grain-128a.
 pub fn of_crypt(secrets: &Secrets, message: &[u8], number: u8) -> String {
     match number {
         4 => too_long("message", message, MESSAGE_MAX),
         19 => NONCE_OF_CRYPT.to_string(),
         _ => of_any(secrets, KEY_OF_CRYPT, number),
+    }
+}
+
+/// What is wrong with the inputs of `crypt` with Grain v1.
+pub fn of_grainv1(secrets: &Secrets, message: &[u8], number: u8) -> String {
+    let wrong_size =
+        |what, bytes, size| format!("{}, and must be {size} for grain-v1", is(what, bytes));
+    match number {
+        1 => wrong_size("key", &secrets.key, GRAINV1_KEY_SIZE),
+        2 => wrong_size("nonce", &secrets.nonce, GRAINV1_NONCE_SIZE),
+        4 => too_long("message", message, MESSAGE_MAX),
+        6 => OUTPUT_TOO_SHORT.to_string(),
+        _ => unreachable!("the header names no such refusal {number}"),
     }
 }
 
@@ -150,7 +166,7 @@ fn of_any(secrets: &Secrets, key: &str, number: u8) -> String {
     match number {
         1 => format!("{}, and must be {KEY_SIZE}", is("key", &secrets.key)),
         2 => format!("{}, and must be {NONCE_SIZE}", is("nonce", &secrets.nonce)),
-        6 => "the output is too short".to_string(),
+        6 => OUTPUT_TOO_SHORT.to_string(),
         15 => format!("{BLANK_KEY}: {key}"),
         _ => unreachable!("the header names no such refusal {number}"),
     }

@@ -28,6 +28,9 @@ pub fn run(call: Call, options: &Options) -> Result<(), Failure> {
             ])?;
             with_grain128a(call, options)
         }
+        Some(Algorithm::GrainV1) => Err(Failure::Usage(
+            "--cipher: grain-v1 has no tag; it goes with crypt".to_string(),
+        )),
     }
 }
 

@@ -3,6 +3,7 @@
 use crate::failure::Failure;
 use crate::frame_checks;
 use crate::grain128a_checks;
+use crate::grainv1_checks;
 use crate::job::Job;
 use crate::stream_checks;
 use crate::streams;
@@ -63,6 +64,7 @@ pub fn run() -> Result<(), Failure> {
         (stream_checks::HEADING, stream_checks::all()),
         (frame_checks::HEADING, frame_checks::all()),
         (grain128a_checks::HEADING, grain128a_checks::all()),
+        (grainv1_checks::HEADING, grainv1_checks::all()),
     ];
     let checks = sections.iter().flat_map(|(_, checks)| checks);
     let total = checks.clone().count();

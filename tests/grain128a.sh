@@ -184,9 +184,9 @@ damage() { # each bit of the payload of three bytes and a tag of 32 bits
 wrong_usage() {
   : >input
   for command in seal open; do
-    misused "--cipher: 'aes' is neither grain-128aead nor grain-128a" "$command" --cipher aes
-    misused "--cipher: '' is neither grain-128aead nor grain-128a" "$command" --cipher ""
-    misused "--cipher: 'Grain-128a' is neither grain-128aead nor grain-128a" "$command" --cipher=Grain-128a
+    misused "--cipher: 'aes' is none of grain-128aead, grain-128a and grain-v1" "$command" --cipher aes
+    misused "--cipher: '' is none of grain-128aead, grain-128a and grain-v1" "$command" --cipher ""
+    misused "--cipher: 'Grain-128a' is none of grain-128aead, grain-128a and grain-v1" "$command" --cipher=Grain-128a
     misused "--ad: grain-128a has no associated data" "$command" "${sealing[@]}" --ad 00
     misused "--ad: grain-128a has no associated data" "$command" "${sealing[@]}" --ad ""
     misused "--ad-file: grain-128a has no associated data" "$command" "${sealing[@]}" --ad-file absent
@@ -206,10 +206,10 @@ wrong_usage() {
 
 wrong_usage_of_crypt() {
   : >input
-  misused "--cipher is needed: grain-128a" crypt --key "$key" --nonce "$without"
+  misused "--cipher is needed: grain-128a or grain-v1" crypt --key "$key" --nonce "$without"
   misused "--cipher: grain-128aead has no mode without authentication" \
     crypt --cipher grain-128aead --key "$key" --nonce "$without"
-  misused "--cipher: 'aes' is neither grain-128aead nor grain-128a" crypt --cipher aes
+  misused "--cipher: 'aes' is none of grain-128aead, grain-128a and grain-v1" crypt --cipher aes
   misused "--ad: crypt authenticates nothing" crypt "${crypting[@]}" --ad 00
   misused "--ad-file: crypt authenticates nothing" crypt "${crypting[@]}" --ad-file absent
   misused "--tag-bits: crypt makes no tag" crypt "${crypting[@]}" --tag-bits=8
@@ -245,7 +245,7 @@ help_of_grain128a() {
   check "--help has the longest tag" \
     grep -q "how many bits the tag has, 1 to $tag_bits_max; $tag_bits_max if not given" help
   check "--help has the modes" \
-    grep -q "  19 bit 0 of the nonce is not 1 (seal, open with grain-128a), or not 0 (crypt)" help
+    grep -q "  19 bit 0 of the nonce is not 1 (seal, open with grain-128a), or not 0 (crypt with grain-128a)$" help
   check "--help has the tag's bits" grep -q "  20 the tag is to have no bits, or more than $tag_bits_max " help
   run 0 crypt --help
   check "crypt --help" cmp help output

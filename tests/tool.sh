@@ -324,13 +324,14 @@ help_and_selftest() {
   check "the example of a file" cmp log.bin log.copy
   check "the example of Grain-128a" [ "$(grep -cE '^[0-9a-f]{38}$' shown)" = 1 ]
   check "the example of a file without a tag" cmp log.bin log.deciphered
+  check "the example of Grain v1" grep -qx "tag 4711" shown
   check "the examples of a frame" [ "$(sed -n '/##/{N;p;}' shown)" = $'7E8##10206929DE3FBCB4C983CC600\n0960' ]
   run 0 parts --in log.sealed
   check "the example of the parts" cmp output <(tail -n 2 shown)
   run 0 --version
   check "--version" [ "$(cat output)" = "tikhoplav $version" ]
   run 0 selftest
-  check "selftest" [ "$(tail -n 1 output)" = "211 passed, 0 failed" ]
+  check "selftest" [ "$(tail -n 1 output)" = "219 passed, 0 failed" ]
   check "selftest says which published vector it leaves out" grep -q "^  Published vector 1 is under this key" output
 }
 
