@@ -2,6 +2,7 @@
 //! the same machine, in rounds by turns.
 
 mod grain128a;
+mod grainv1;
 mod growth;
 mod jobs;
 mod pieces;
@@ -53,6 +54,8 @@ fn main() {
         row("crypt, bytes", size, &mut grain128a::crypt_to_sealing(size));
     }
 
+    grainv1_calls();
+
     println!("\nThe second edition's speed as a part of the first's, both by the archive:");
     editions();
 
@@ -98,6 +101,13 @@ fn grain128a_calls() {
     }
     for size in MESSAGE_LENS {
         row("crypt, bytes", size, &mut grain128a::crypt(size));
+    }
+}
+
+fn grainv1_calls() {
+    println!("\nGrain v1. The yardstick of crypt is its own crypt with Grain v1:");
+    for size in MESSAGE_LENS {
+        row("crypt, bytes", size, &mut grainv1::crypt(size));
     }
 }
 
