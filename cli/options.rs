@@ -148,8 +148,10 @@ fn present<'a>(name: &str, value: Option<&'a OsStr>, attached: bool) -> Result<&
 
 fn unknown(known: &Known, name: &OsStr, value: Option<&OsStr>) -> String {
     if let Some((name, why)) = known.elsewhere.iter().find(|(option, _)| name == *option) {
-        return match value {
-            Some(cipher) if cipher == "grain-v1" => format!("{name}: {why}; grain-v1 has no tag"),
+        return match (*name, value) {
+            ("--cipher", Some(cipher)) if cipher == "grain-v1" => {
+                format!("{name}: {why}; grain-v1 has no tag")
+            }
             _ => format!("{name}: {why}"),
         };
     }

@@ -157,6 +157,7 @@ commands_without() { # those that need a tag
       parts "${named[@]}"
   done
   misused "--cipher: check is for grain-128aead alone" check --cipher
+  misused "--tag-bits: check is for grain-128aead alone" check --tag-bits grain-v1
   misused "unexpected argument '--cipher'" selftest --cipher grain-v1
 }
 
