@@ -23,8 +23,9 @@ use Rattle.generators.specs.Running.{Running, clocks, given}
 use Rattle.generators.specs.Strokes.{listed, outputAt}
 use Rattle.generators.proofs.ClocksStroked.{clocks-every, listed-every}
 use Rattle.generators.proofs.Keystream.{Flipping, flipping, clocked, more, both-written}
-use Rattle.generators.proofs.Runs.{clocks-add, ways}
-use Rattle.generators.proofs.Spaced.{length-every, take-every, clocks-none}
+use Rattle.generators.proofs.Runs.{clocks-less, clocks-none, ways}
+use Rattle.generators.proofs.Spaced.{length-every, take-every}
+use Rattle.generators.proofs.Spaced as spaced
 use Rattle.grainv1.specs.declared.registers.Registers.{Registers}
 use Rattle.grainv1.specs.declared.registers.Run.{Run}
 use Rattle.grainv1.specs.Functions.{grainv1}
@@ -53,9 +54,17 @@ next-words r s y ey eg eo = λ i. record {
     outputs : word 16 y ≡ every grainv1 1 16 g
     outputs = ey ∙ listed-every grainv1 80 65 taps (lit< tt) 16 g (lit≤ tt) (words-sized (r .registers))
 
--- One run after the other.
-pub ran-on : (m n : ℕ) (r : Running) {s t : Running} → s ≡ ran m r → t ≡ ran n s → t ≡ ran (m + n) r
-ran-on m n r es et = et ∙ ap (ran n) es ∙ sym (clocks-add grainv1 m n (given []) (given []) r)
+-- With sixteen for each turn that is left, the same run.
+abbrev pub Left : (whole : Running) → Running → (left : ℕ) → Type 0
+Left whole r left = ran (left * 16) r ≡ whole
+
+pub left-less : {whole : Running} (r : Running) (left : ℕ) {r′ : Running} → 0 < left → r′ ≡ ran 16 r → Left whole r left → Left whole r′ (left - 1)
+left-less r left {r′} pos e all =
+    let less : left * 16 - 16 ≡ (left - 1) * 16 = omega arith in
+    ap (λ (n : ℕ). ran n r′) (sym less) ∙ clocks-less grainv1 (left * 16) 16 (given []) (given []) r (omega arith) e refl refl all
+
+pub left-none : {whole : Running} (r : Running) (left : ℕ) → left ≤ 0 → Left whole r left → r ≡ whole
+left-none r left none all = clocks-none grainv1 (left * 16) (given []) (given []) r (omega arith) all
 
 -- All 64, from a run that began with no outputs.
 pub keystreams : (g : Registers) (r : Run) → runningOf r ≡ ran 64 (runningOf record { registers = g; outputs = 0 }) → Keystreams (generatorOf g) r
@@ -74,7 +83,7 @@ pub record Adds (g : Registers) (s lent out : List ℕ) (now : Registers) (at : 
 
 pub adds-none : (g : Registers) (s lent : List ℕ) → Adds g s lent lent g 0
 unfolding bits bytes flip every
-adds-none g s lent = record { inside = omega arith; kept = refl; written = refl; generator = λ h. sym (clocks-none grainv1 1 (generatorOf g)) }
+adds-none g s lent = record { inside = omega arith; kept = refl; written = refl; generator = λ h. sym (spaced.clocks-none grainv1 1 (generatorOf g)) }
 
 -- How many bytes a turn goes over.
 pub record Piece (left n : ℕ) : Type 0 where

@@ -31,11 +31,16 @@ fn next(r: Run) -> Run
 pub fn word(g: Registers) -> Run
     ensures { λ r. ⌜ Keystreams (generatorOf g) r ⌝ }
 {
-    let none = Run {
+    let mut now = Run {
         registers: g,
         outputs: 0,
     };
-    next(next(next(next(none))))
+    let mut left: usize = 4;
+    while 0 < left {
+        now = next(now);
+        left -= 1;
+    }
+    now
 }
 
 // How many bytes of those that are left a word of keystream is for.

@@ -1,30 +1,42 @@
 -- `grainv1::keystream::word` meets its contract.
 -- Assumes nothing.
-use Rattle.grainv1.proofs.Outputs.{ran-on, keystreams}
+use mathlib.Core.Path.{refl, sym}
+use native.Mathlib.Omega.{arith}
 use borrow.Author.Needs.{needs}
+use Rattle.grainv1.specs.Words.{runningOf}
+use Rattle.grainv1.proofs.Outputs.{ran, Left, left-less, left-none, keystreams}
 use Rattle.grainv1.proofs.keystream.word.Statement.{statement}
 use Rattle.grainv1.proofs.keystream.word.Tie as tie
 
-next-requires : tie.Need-next-requires
+abbrev Inv-loop : tie.InvT-loop
+Inv-loop now₀ left₀ now left = Left (ran 64 (runningOf now₀)) (runningOf now) left
+
+abbrev μ-loop : tie.MeasureT-loop
+μ-loop now₀ left₀ now left = left
+
+loop-holds : tie.Need-loop-holds Inv-loop μ-loop
+loop-holds c = refl
+
+next-requires : tie.Need-next-requires Inv-loop μ-loop
 next-requires c κs = search needs
 
-next-requires-2 : tie.Need-next-requires-2
-next-requires-2 c κs = search needs
+sub-left : tie.Need-sub-left Inv-loop μ-loop
+sub-left c = omega arith
 
-next-requires-3 : tie.Need-next-requires-3
-next-requires-3 c κs = search needs
+loop-less : tie.Need-loop-less Inv-loop μ-loop
+loop-less c = omega arith
 
-next-requires-4 : tie.Need-next-requires-4
-next-requires-4 c κs = search needs
+loop-again : tie.Need-loop-again Inv-loop μ-loop
+loop-again c =
+    let l = c .before .before .loop in
+    left-less (runningOf (l .now)) (l .left) (omega arith) (c .next .ensures) (l .inv)
 
-returns : tie.Need-returns
+returns : tie.Need-returns Inv-loop μ-loop
 returns c =
-    let c3 = c .before in
-    let c2 = c3 .before in
-    let c1 = c2 .before in
-    keystreams (c1 .before .args .g) (c .next4 .result)
-    (ran-on 48 16 _ (ran-on 32 16 _ (ran-on 16 16 _ (c1 .next .ensures) (c2 .next2 .ensures)) (c3 .next3 .ensures)) (c .next4 .ensures))
+    let l = c .before .loop in
+    keystreams (c .before .before .args .g) (l .now) (left-none (runningOf (l .now)) (l .left) (omega arith) (l .inv))
 
 pub word-spec : {M : Type 1} → statement M
 word-spec =
-    tie.close (tie.spec next-requires next-requires-2 next-requires-3 next-requires-4 returns)
+    tie.close
+    (tie.spec Inv-loop μ-loop loop-holds next-requires sub-left loop-less loop-again returns)
