@@ -21,7 +21,7 @@ use Rattle.generators.specs.Keystream.{added}
 use Rattle.generators.proofs.Keystream.{flipping, length-added, added-twice}
 use Rattle.untagged.proofs.Crypting as untagged
 use Rattle.grainv1.specs.Functions.{grainv1}
-use Rattle.grainv1.specs.StartUp.{started, withKeystream}
+use Rattle.grainv1.specs.StartUp.{initialised, withKeystream}
 use Rattle.grainv1.specs.Rows.{order, rows}
 use Rattle.grainv1.specs.Calls.{crypted, Legal, Crypting, Twice}
 use Rattle.grainv1.proofs.Rows.{tabled, quiet-legal, legal-quiet}
@@ -32,11 +32,11 @@ judgement key nonce message out = check order (among (rows key nonce message out
 module _ (key nonce : List ℕ) where
   pub length-withKeystream : (s : List ℕ) → length (withKeystream key nonce s) ≡ length s
   unfolding withKeystream
-  length-withKeystream s = length-added grainv1 flipping 1 (started key nonce) s
+  length-withKeystream s = length-added grainv1 flipping 1 (initialised key nonce) s
 
   withKeystream-twice : (s : List ℕ) → Bytes s → withKeystream key nonce (withKeystream key nonce s) ≡ s
   unfolding withKeystream
-  withKeystream-twice s b = added-twice grainv1 flipping 1 (started key nonce) s b
+  withKeystream-twice s b = added-twice grainv1 flipping 1 (initialised key nonce) s b
 
   module _ (message out : List ℕ) where
     pub passed-legal : judgement key nonce message out ≡ Passed → Legal key nonce message × (length message ≤ length out)
@@ -67,7 +67,7 @@ module _ (key nonce : List ℕ) where
     pub crypt-failed : {r : Refusal} → judgement key nonce message out ≡ Failed r → outcome (Refused r) out ≡ crypted key nonce message out
     crypt-failed e = settled-failed (judgement key nonce message out) (withKeystream key nonce message) out settles e
 
-    pub crypt-passed : {g : Generator Bool} {written : List ℕ} → judgement key nonce message out ≡ Passed → g ≡ started key nonce
+    pub crypt-passed : {g : Generator Bool} {written : List ℕ} → judgement key nonce message out ≡ Passed → g ≡ initialised key nonce
         → written ≡ added grainv1 flip 1 g message ++ drop (length message) out → outcome (Count (length message)) written ≡ crypted key nonce message out
     unfolding withKeystream
     crypt-passed e eg ew =

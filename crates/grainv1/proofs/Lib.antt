@@ -5,3 +5,4 @@ pub mod StartUp
 pub mod Outputs
 pub mod Rows
 pub mod Calls
+pub mod Laws

@@ -14,33 +14,19 @@ use Rattle.bits.proofs.Times.{times-add}
 use Rattle.generators.specs.Generator.{Generator, fedBack}
 use Rattle.grainv1.specs.Sizes.{keySize, nonceSize}
 use Rattle.grainv1.specs.Functions.{grainv1}
-use Rattle.grainv1.specs.StartUp.{loaded, started}
-use Rattle.grainv1.specs.Words.{generatorOf}
+use Rattle.grainv1.specs.StartUp.{loaded, started, initialised}
+use Rattle.grainv1.specs.Words.{register, generatorOf}
 
 -- Key and nonce, and sixteen ones, on words.
-pub loaded-words : (key nonce : List ℕ) (n k0 k1 : ℕ) → length key ≡ keySize → length nonce ≡ nonceSize
-    → n ≡ value (bits nonce) % 2 ^ 64 → k0 ≡ value (bits (take 8 key)) % 2 ^ 64 → k1 ≡ value (bits (drop 8 key)) % 2 ^ 64
-    → generatorOf record { lfsr0 = n; lfsr1 = 65535; nfsr0 = k0; nfsr1 = k1 } ≡ loaded key nonce
+pub loaded-words : (k0 k1 n : ℕ) → generatorOf record { lfsr0 = n; lfsr1 = 65535; nfsr0 = k0; nfsr1 = k1 } ≡ loaded (register k0 k1) (word 64 n)
 unfolding generatorOf loaded word
-loaded-words key nonce n k0 k1 hk hn en e0 e1 = λ i. record { lfsr = lfsr i; nfsr = nfsr i }
-  where
-    lfsr : word 64 n ++ word 16 65535 ≡ loaded key nonce .lfsr
-    lfsr = ap (λ (s : List Bool). s ++ word 16 65535) (spelled-eight nonce n hn en)
-
-    two : length (drop 8 key) ≡ 2
-    two = omega (arith, length-drop 8 key)
-
-    nfsr : word 64 k0 ++ word 16 k1 ≡ bits key
-    nfsr =
-        ap₂ _++_ (spelled-eight (take 8 key) k0 (omega (arith, length-take 8 key)) e0)
-        (ap (λ (n : ℕ). word (8 * n) k1) (sym two) ∙ spelled (drop 8 key) k1 (omega (arith, two)) e1)
-        ∙ sym (bits-append (take 8 key) (drop 8 key)) ∙ ap bits (take-append-drop 8 key)
+loaded-words k0 k1 n = refl
 
 -- The clocks that are left come from those loaded to those started.
-abbrev pub Left : (key nonce : List ℕ) → Generator Bool → (left : ℕ) → Type 0
+abbrev pub Left : (key nonce : List Bool) → Generator Bool → (left : ℕ) → Type 0
 Left key nonce g left = times (left * 16) (fedBack grainv1) g ≡ started key nonce
 
-module _ (key nonce : List ℕ) where
+module _ (key nonce : List Bool) where
   pub left-all : {g : Generator Bool} → g ≡ loaded key nonce → Left key nonce g 10
   unfolding started
   left-all e = ap (times 160 (fedBack grainv1)) e
@@ -54,3 +40,19 @@ module _ (key nonce : List ℕ) where
   unfolding times
   left-none g zero h all = all
   left-none g (suc n) h all = absurd (omega arith)
+
+-- From the bytes of key and nonce.
+pub initialised-words : (key nonce : List ℕ) (k0 k1 n : ℕ) {g : Generator Bool} → length key ≡ keySize → length nonce ≡ nonceSize
+    → k0 ≡ value (bits (take 8 key)) % 2 ^ 64 → k1 ≡ value (bits (drop 8 key)) % 2 ^ 64 → n ≡ value (bits nonce) % 2 ^ 64
+    → g ≡ started (register k0 k1) (word 64 n) → g ≡ initialised key nonce
+unfolding initialised
+initialised-words key nonce k0 k1 n hk hn e0 e1 en e = e ∙ ap₂ started whole (spelled-eight nonce n hn en)
+  where
+    two : length (drop 8 key) ≡ 2
+    two = omega (arith, length-drop 8 key)
+
+    whole : register k0 k1 ≡ bits key
+    whole =
+        ap₂ _++_ (spelled-eight (take 8 key) k0 (omega (arith, length-take 8 key)) e0)
+        (ap (λ (m : ℕ). word (8 * m) k1) (sym two) ∙ spelled (drop 8 key) k1 (omega (arith, two)) e1)
+        ∙ sym (bits-append (take 8 key) (drop 8 key)) ∙ ap bits (take-append-drop 8 key)

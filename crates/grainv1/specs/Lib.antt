@@ -5,3 +5,4 @@ pub mod Words
 pub mod StartUp
 pub mod Rows
 pub mod Calls
+pub mod Laws

@@ -15,8 +15,8 @@ enum-known-r c = search needs
 enum-told : tie.Need-enum-told
 enum-told c = search needs
 
-start-requires : tie.Need-start-requires
-start-requires c κs =
+begin-requires : tie.Need-begin-requires
+begin-requires c κs =
     let j = c .before .before in
     let a = j .before .before .before .before .before .before .args in
     let h = passed-legal (a .key .now) (a .nonce .now) (a .message .now) (a .out .now) (sym (j .judge .ensures) ∙ c .enum-told .given .1) .0 in
@@ -49,7 +49,7 @@ returns-2 c =
     let j = s .before .before .before in
     let a = j .before .before .before .before .before .before .args in
     called (a .key .now) (a .nonce .now) (a .message .now) (a .out .now)
-    (crypt-passed (a .key .now) (a .nonce .now) (a .message .now) (a .out .now) (sym (j .judge .ensures) ∙ s .before .enum-told .given .1) (s .start .ensures) (w .add .ensures))
+    (crypt-passed (a .key .now) (a .nonce .now) (a .message .now) (a .out .now) (sym (j .judge .ensures) ∙ s .before .enum-told .given .1) (s .begin .ensures) (w .add .ensures))
 
 pub crypt-spec : {M : Type 1} → statement M
 crypt-spec =
@@ -58,7 +58,7 @@ crypt-spec =
     judge-requires
     enum-known-r
     enum-told
-    start-requires
+    begin-requires
     add-requires
     same-length
     returns

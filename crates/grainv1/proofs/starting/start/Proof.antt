@@ -1,24 +1,21 @@
 -- `grainv1::starting::start` meets its contract.
 -- Assumes nothing.
-use mathlib.Core.Path.{_≡_}
 use native.Mathlib.Omega.{arith}
 use borrow.Author.Needs.{needs}
-use Rattle.grainv1.specs.Words.{generatorOf}
-use Rattle.grainv1.proofs.StartUp.{Left, left-all, left-less, left-none}
+use Rattle.bits.specs.Bytes.{word}
+use Rattle.grainv1.specs.Words.{register, generatorOf}
+use Rattle.grainv1.proofs.StartUp.{loaded-words, Left, left-all, left-less, left-none}
 use Rattle.grainv1.proofs.starting.start.Statement.{statement}
 use Rattle.grainv1.proofs.starting.start.Tie as tie
 
 abbrev Inv-loop : tie.InvT-loop
-Inv-loop key nonce now₀ left₀ now left = Left key nonce (generatorOf now) left
+Inv-loop key0 key1 nonce now₀ left₀ now left = Left (register key0 key1) (word 64 nonce) (generatorOf now) left
 
 abbrev μ-loop : tie.MeasureT-loop
-μ-loop key nonce now₀ left₀ now left = left
-
-load-requires : tie.Need-load-requires Inv-loop μ-loop
-load-requires c κs = search needs
+μ-loop key0 key1 nonce now₀ left₀ now left = left
 
 loop-holds : tie.Need-loop-holds Inv-loop μ-loop
-loop-holds c = left-all _ _ (c .load .ensures)
+loop-holds c = left-all _ _ (loaded-words (c .args .key0) (c .args .key1) (c .args .nonce))
 
 fed-back-requires : tie.Need-fed-back-requires Inv-loop μ-loop
 fed-back-requires c κs = search needs
@@ -42,13 +39,4 @@ returns c =
 pub start-spec : {M : Type 1} → statement M
 start-spec =
     tie.close
-    (tie.spec
-    Inv-loop
-    μ-loop
-    load-requires
-    loop-holds
-    fed-back-requires
-    sub-left
-    loop-less
-    loop-again
-    returns)
+    (tie.spec Inv-loop μ-loop loop-holds fed-back-requires sub-left loop-less loop-again returns)

@@ -1,4 +1,4 @@
--- `grainv1::keystream::add` meets its contract.
+-- `grainv1::adding::add` meets its contract.
 -- Assumes nothing.
 use mathlib.Core.Path.{refl}
 use Prim.Native.Nat.{_-_}
@@ -8,8 +8,8 @@ use borrow.Author.Needs.{needs}
 use lib.ListN.{length}
 use lib.Seq.{take-all}
 use Rattle.grainv1.proofs.Outputs.{Adds, adds-none, piece-sized, turn-sized, adds-turn}
-use Rattle.grainv1.proofs.keystream.add.Statement.{statement}
-use Rattle.grainv1.proofs.keystream.add.Tie as tie
+use Rattle.grainv1.proofs.adding.add.Statement.{statement}
+use Rattle.grainv1.proofs.adding.add.Tie as tie
 
 abbrev Inv-loop : tie.InvT-loop
 Inv-loop s out₀ now₀ at₀ out now at = Adds now₀ s out₀ out now at

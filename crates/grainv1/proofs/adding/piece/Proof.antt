@@ -1,9 +1,9 @@
--- `grainv1::keystream::piece` meets its contract.
+-- `grainv1::adding::piece` meets its contract.
 -- Assumes nothing.
 use mathlib.Core.Path.{refl}
 use borrow.Author.Tests.{lt-ltb, le-ltb}
-use Rattle.grainv1.proofs.keystream.piece.Statement.{statement}
-use Rattle.grainv1.proofs.keystream.piece.Tie as tie
+use Rattle.grainv1.proofs.adding.piece.Statement.{statement}
+use Rattle.grainv1.proofs.adding.piece.Tie as tie
 
 returns : tie.Need-returns
 returns c = simp (lt-ltb (c .before .args .left) 8 (c .if1 .taken)) refl
