@@ -14,14 +14,14 @@ const SEALED_LIMIT: usize = MESSAGE_LIMIT + 8;
 const LONGEST: usize = AD_LIMIT + SEALED_LIMIT;
 
 // The first n bytes of a slice that has them; else all of it.
-fn front(s: &[u8], n: usize) -> &[u8] {
+pub fn front(s: &[u8], n: usize) -> &[u8] {
     if n <= s.len() {
         return &s[..n];
     }
     s
 }
 
-fn front_mut(s: &mut [u8], n: usize) -> &mut [u8] {
+pub fn front_mut(s: &mut [u8], n: usize) -> &mut [u8] {
     if n <= s.len() {
         return &mut s[..n];
     }

@@ -1,6 +1,7 @@
-// Runs the published vectors on the machine below the entry points, the examples that are not starred on the calls, and the sum of two
-// tags beside that of registers. Prints a line for each, and the counts.
+// Runs the published vectors on the machine below the entry points, the examples that are not starred on the calls, the sum of two
+// tags beside that of registers, and Grain v1. Prints a line for each, and the counts.
 mod examples;
+mod grain_v1;
 mod published;
 mod tally;
 mod two_tags;
@@ -14,5 +15,7 @@ fn main() {
     let refusals = examples::order(edges);
     let blank = examples::blank_key(refusals);
     let largest = examples::largest(blank);
-    tally::close(two_tags::run(largest));
+    let tags = two_tags::run(largest);
+    let designers = grain_v1::published(tags);
+    tally::close(grain_v1::edges(designers));
 }
