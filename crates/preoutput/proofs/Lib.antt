@@ -1,5 +1,4 @@
+pub mod Functions
 pub mod Published
-pub mod Sizes
 pub mod Words
-pub mod Spaced
 pub mod Runs

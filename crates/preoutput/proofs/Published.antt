@@ -2,7 +2,7 @@
 -- Assumes nothing.
 use mathlib.Core.Path.{refl}
 use Prim.Native.Nat.{ℕ}
-use Rattle.preoutput.specs.Algebra.{Algebra}
+use Rattle.generators.specs.Algebra.{Algebra}
 use Rattle.preoutput.specs.Published.{Published}
 
 pub published : {A : Type 0} (over : Algebra A) (s b : ℕ → A) → Published over s b

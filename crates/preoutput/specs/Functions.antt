@@ -1,7 +1,8 @@
 -- The functions of the pre-output generator (source document 000, section 2.1; document 01, "The two registers").
 -- s gives the content of each place of the LFSR, b that of the NFSR.
 use Prim.Native.Nat.{ℕ}
-use Rattle.preoutput.specs.Algebra.{Algebra}
+use Rattle.generators.specs.Algebra.{Algebra, single}
+use Rattle.generators.specs.Functions.{Functions}
 
 module _ {A : Type 0} (over : Algebra A) where
   open Algebra over using (sum as _⊻_, product as _·_)
@@ -25,9 +26,9 @@ module _ {A : Type 0} (over : Algebra A) where
   abbrev pub y : (s b : ℕ → A) → A
   y s b = h s b ⊻ s 93 ⊻ b 2 ⊻ b 15 ⊻ b 36 ⊻ b 45 ⊻ b 64 ⊻ b 73 ⊻ b 89
 
-  -- The new bits of a clock, each with what is added to it; in plain running that is zero.
-  abbrev pub lfsrBit : (s : ℕ → A) → A → A
-  lfsrBit s added = L s ⊻ added
+  abbrev pub functions : Functions over
+  functions = record { linear = L; nonlinear = F; output = y }
 
-  abbrev pub nfsrBit : (s b : ℕ → A) → A → A
-  nfsrBit s b added = s 0 ⊻ F b ⊻ added
+-- The functions of the Grain ciphers with 128 places, on single bits.
+abbrev pub grain128 : Functions single
+grain128 = functions single

@@ -3,7 +3,7 @@
 use mathlib.Core.Path.{_≡_}
 use mathlib.Core.List.{List, [], _∷_, map, foldl}
 use Prim.Native.Nat.{ℕ, _-_}
-use Rattle.preoutput.specs.Algebra.{Algebra}
+use Rattle.generators.specs.Algebra.{Algebra}
 use Rattle.preoutput.specs.Functions.{L, F, h, y}
 
 -- A polynomial is a list of its monomials but the 1, a monomial the list of its exponents, the highest power first.

@@ -1,7 +1,8 @@
 // The published functions on words: each place is moved to the lowest bit, and the lowest bit of the result is the function's value.
 ghost use mathlib.Core.Path.{_≡_};
+ghost use Rattle.generators.specs.Algebra.{words};
 ghost use Rattle.preoutput.specs.Functions.{L, F, y};
-ghost use Rattle.preoutput.specs.Words.{words, tap};
+ghost use Rattle.preoutput.specs.Words.{tap};
 
 pub fn linear(s0: u64, s1: u64) -> u64
     ensures { λ r. ⌜ r ≡ L words (tap s0 s1) ⌝ }
