@@ -14,9 +14,10 @@ use lib.ListN.{take, drop}
 use lib.Seq.{take-at, drop-at}
 use Rattle.bits.specs.Bytes.{word, value}
 use Rattle.bits.proofs.Word.{length-word, value-word}
+use Rattle.generators.specs.Running.{Running}
 use Rattle.preoutput.specs.declared.Run.{Run}
 use Rattle.preoutput.specs.Words.{generatorOf}
-use Rattle.preoutput.specs.Running.{Running, runningOf}
+use Rattle.preoutput.specs.Running.{runningOf}
 use Rattle.strokes.specs.Engines.{Agree}
 
 word-injective : (x y : ℕ) → x < 2 ^ 64 → y < 2 ^ 64 → word 64 x ≡ word 64 y → x ≡ y

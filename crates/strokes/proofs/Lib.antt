@@ -1,6 +1,4 @@
-pub mod Listed
 pub mod WindowBits
-pub mod ClocksStroked
 pub mod StrokeWords
 pub mod PlainStreams
 pub mod Agreement

@@ -15,16 +15,19 @@ use Rattle.bits.proofs.Lowest.{word-xor}
 use Rattle.bits.proofs.Moved.{word-zero}
 use Rattle.bits.proofs.Sum.{getD-sum}
 use Rattle.bits.proofs.Word.{length-word}
+use Rattle.generators.specs.Generator.{Sized}
+use Rattle.generators.specs.Running.{clocks, adds}
+use Rattle.generators.specs.Strokes.{listed, outputAt, lfsrBitAt, nfsrBitAt, stroked, strokedRun}
+use Rattle.generators.proofs.ClocksStroked.{at, clocks-stroked, stroked-agrees}
+use Rattle.generators.proofs.Listed.{take-listed, places-listed}
 use Rattle.preoutput.specs.declared.Registers.{Registers}
 use Rattle.preoutput.specs.declared.Run.{Run}
 use Rattle.preoutput.specs.declared.Adding.{Adding}
-use Rattle.preoutput.specs.Generator.{Sized}
+use Rattle.preoutput.specs.Functions.{grain128}
 use Rattle.preoutput.specs.Words.{generatorOf}
-use Rattle.preoutput.specs.Running.{clocks, adds, runningOf, toLfsr, toNfsr}
-use Rattle.strokes.specs.Strokes.{listed, outputAt, lfsrBitAt, nfsrBitAt, stroked, strokedRun}
+use Rattle.preoutput.specs.Running.{runningOf, toLfsr, toNfsr}
+use Rattle.preoutput.proofs.Functions.{taps}
 use Rattle.bits.proofs.Slides.{slide-both, shifted-slide, word-take}
-use Rattle.strokes.proofs.ClocksStroked.{at, clocks-stroked, stroked-agrees}
-use Rattle.strokes.proofs.Listed.{take-listed, places-listed}
 
 -- The new bits of n clocks, behind a register from place n on.
 new-bits : (n : ℕ) (r : List Bool) (x : ℕ) (f : ℕ → Bool) → n ≤ 32 → n ≤ length r → word 32 x ≡ listed 32 f → drop n r ++ take n (word 64 (x * 2 ^ 32 % 2 ^ 64)) ≡ foldl shift r (listed n f)
@@ -50,10 +53,10 @@ pub record Slid (g : Registers) (n u v x z : ℕ) (s : Registers) : Type 0 where
   pub lfsr1 : word 64 (s .lfsr1) ≡ drop n (word 64 (g .lfsr1)) ++ take n (word 64 (x * 2 ^ 32 % 2 ^ 64))
   pub nfsr0 : word 64 (s .nfsr0) ≡ drop n (word 64 (g .nfsr0)) ++ take n (word 64 (g .nfsr1))
   pub nfsr1 : word 64 (s .nfsr1) ≡ drop n (word 64 (g .nfsr1)) ++ take n (word 64 (z * 2 ^ 32 % 2 ^ 64))
-  pub lfsrBits : word 32 x ≡ listed 32 (lfsrBitAt (generatorOf g) (places (word 32 u)))
-  pub nfsrBits : word 32 z ≡ listed 32 (nfsrBitAt (generatorOf g) (places (word 32 v)))
+  pub lfsrBits : word 32 x ≡ listed 32 (lfsrBitAt grain128 (generatorOf g) (places (word 32 u)))
+  pub nfsrBits : word 32 z ≡ listed 32 (nfsrBitAt grain128 (generatorOf g) (places (word 32 v)))
 
-pub stroke-words : (g : Registers) (n u v x z : ℕ) (s : Registers) → n ≤ 32 → Slid g n u v x z s → generatorOf s ≡ stroked n (places (word 32 u)) (places (word 32 v)) (generatorOf g)
+pub stroke-words : (g : Registers) (n u v x z : ℕ) (s : Registers) → n ≤ 32 → Slid g n u v x z s → generatorOf s ≡ stroked grain128 n (places (word 32 u)) (places (word 32 v)) (generatorOf g)
 unfolding stroked generatorOf
 stroke-words g n u v x z s h slid = λ i. record {
   lfsr = register-slid n (g .lfsr0) (g .lfsr1) (s .lfsr0) (s .lfsr1) x _ h (slid .lfsr0) (slid .lfsr1) (slid .lfsrBits) i;
@@ -80,21 +83,21 @@ module _ (fed : Bool) (y w0 w1 f : ℕ) (out : ℕ → Bool) (ey : word 32 y ≡
       ∙ ap₂ _⊻_ (fed-place i h)
       (ap (λ (s : List Bool). places s i) (sym (word-take 32 32 w0)) ∙ getD-take 32 (word 64 w0) i false h ∙ sym (List·getD-append (word 64 w0) (word 64 w1) false i (omega (arith, length-word 64 w0))))
 
-pub at-once-words : (r : Run) (a : Adding) (n y f : ℕ) (s : Run) → n ≤ 32 → word 32 y ≡ listed 32 (outputAt (generatorOf (r .registers))) → f ≡ cond (a .fed) y 0
-    → generatorOf (s .registers) ≡ stroked n (places (word 32 (bitXor f (a .lfsr0 / 2 ^ 32)))) (places (word 32 (bitXor f (a .nfsr0 / 2 ^ 32)))) (generatorOf (r .registers))
+pub at-once-words : (r : Run) (a : Adding) (n y f : ℕ) (s : Run) → n ≤ 32 → word 32 y ≡ listed 32 (outputAt grain128 (generatorOf (r .registers))) → f ≡ cond (a .fed) y 0
+    → generatorOf (s .registers) ≡ stroked grain128 n (places (word 32 (bitXor f (a .lfsr0 / 2 ^ 32)))) (places (word 32 (bitXor f (a .nfsr0 / 2 ^ 32)))) (generatorOf (r .registers))
     → word 64 (s .outputs) ≡ drop n (word 64 (r .outputs)) ++ take n (word 64 (y * 2 ^ 32 % 2 ^ 64))
-    → runningOf s ≡ clocks n (toLfsr a) (toNfsr a) (runningOf r)
+    → runningOf s ≡ clocks grain128 n (toLfsr a) (toNfsr a) (runningOf r)
 unfolding runningOf strokedRun toLfsr toNfsr
 at-once-words r a n y f s h ey ef eg eo =
     (λ i. record {
       generator = (eg ∙ added) i;
       outputs = outputs-slid n (r .outputs) y (s .outputs) _ h eo ey i;
     })
-    ∙ sym (clocks-stroked n (toLfsr a) (toNfsr a) (runningOf r) h (words-sized (r .registers)))
+    ∙ sym (clocks-stroked grain128 128 97 taps (omega arith) n (toLfsr a) (toNfsr a) (runningOf r) (omega arith) (words-sized (r .registers)))
   where
-    added : stroked n (places (word 32 (bitXor f (a .lfsr0 / 2 ^ 32)))) (places (word 32 (bitXor f (a .nfsr0 / 2 ^ 32)))) (generatorOf (r .registers))
-        ≡ stroked n (at (toLfsr a) (runningOf r)) (at (toNfsr a) (runningOf r)) (generatorOf (r .registers))
+    added : stroked grain128 n (places (word 32 (bitXor f (a .lfsr0 / 2 ^ 32)))) (places (word 32 (bitXor f (a .nfsr0 / 2 ^ 32)))) (generatorOf (r .registers))
+        ≡ stroked grain128 n (at grain128 128 97 taps (toLfsr a) (runningOf r)) (at grain128 128 97 taps (toNfsr a) (runningOf r)) (generatorOf (r .registers))
     added =
-        stroked-agrees n _ _ (at (toLfsr a) (runningOf r)) (at (toNfsr a) (runningOf r)) (generatorOf (r .registers))
+        stroked-agrees grain128 n _ _ (at grain128 128 97 taps (toLfsr a) (runningOf r)) (at grain128 128 97 taps (toNfsr a) (runningOf r)) (generatorOf (r .registers))
         (λ i l. added-place (a .fed) y (a .lfsr0) (a .lfsr1) f _ ey ef i (omega arith))
         (λ i l. added-place (a .fed) y (a .nfsr0) (a .nfsr1) f _ ey ef i (omega arith))

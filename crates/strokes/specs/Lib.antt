@@ -1,4 +1,3 @@
 pub mod Windows
-pub mod Strokes
 pub mod Streams
 pub mod Engines

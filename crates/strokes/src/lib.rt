@@ -7,7 +7,9 @@ ghost use mathlib.Core.Path.{_≡_};
 ghost use mathlib.Core.Bool.{true};
 ghost use mathlib.Core.Logic.{_↔_};
 ghost use Prim.Native.Nat.{_≤_};
-ghost use Rattle.preoutput.specs.Running as running;
+ghost use Rattle.generators.specs.Running as running;
+ghost use Rattle.preoutput.specs.Functions.{grain128};
+ghost use Rattle.preoutput.specs.Running.{runningOf, toLfsr, toNfsr};
 use preoutput::Adding;
 use preoutput::Run;
 use preoutput::added;
@@ -16,7 +18,7 @@ use preoutput::plain;
 // The next n clocks of a run, 32 at most, at once.
 fn at_once(r: Run, a: Adding, n: usize) -> Run
     requires { ⌜ n ≤ 32 ⌝ }
-    ensures { λ s. ⌜ running.runningOf s ≡ running.clocks n (running.toLfsr a) (running.toNfsr a) (running.runningOf r) ⌝ }
+    ensures { λ s. ⌜ runningOf s ≡ running.clocks grain128 n (toLfsr a) (toNfsr a) (runningOf r) ⌝ }
 {
     let g = r.registers;
     let y = stroke::outputs(g);
@@ -28,7 +30,7 @@ fn at_once(r: Run, a: Adding, n: usize) -> Run
 }
 
 pub fn run(r: Run, a: Adding, clocks: usize) -> Run
-    ensures { λ s. ⌜ running.runningOf s ≡ running.clocks clocks (running.toLfsr a) (running.toNfsr a) (running.runningOf r) ⌝ }
+    ensures { λ s. ⌜ runningOf s ≡ running.clocks grain128 clocks (toLfsr a) (toNfsr a) (runningOf r) ⌝ }
 {
     let mut now = r;
     let mut to_add = a;

@@ -1,8 +1,8 @@
 // The published functions at 32 clocks: each place is the first of a window of 32, and the lowest 32 bits of the result are the
 // function's values at these clocks. The words of a register have its places from 0, from 32 and from 64 on.
 ghost use mathlib.Core.Path.{_≡_};
+ghost use Rattle.generators.specs.Algebra.{words};
 ghost use Rattle.preoutput.specs.Functions.{L, F, y};
-ghost use Rattle.preoutput.specs.Words.{words};
 ghost use Rattle.strokes.specs.Windows.{window};
 
 pub fn linear(s0: u64, s32: u64, s64: u64) -> u64

@@ -3,14 +3,15 @@
 use mathlib.Core.Path.{_≡_, refl, _∙_}
 use native.Mathlib.Omega.{arith}
 use borrow.Author.Needs.{needs}
-use Rattle.preoutput.specs.Running as running
+use Rattle.generators.specs.Running as running
+use Rattle.generators.proofs.Runs.{clocks-less}
+use Rattle.preoutput.specs.Functions.{grain128}
 use Rattle.preoutput.specs.Running.{runningOf, toLfsr, toNfsr}
-use Rattle.preoutput.proofs.Runs.{clocks-less}
 use Rattle.strokes.proofs.run.Statement.{statement}
 use Rattle.strokes.proofs.run.Tie as tie
 
 abbrev Inv-loop : tie.InvT-loop
-Inv-loop clocks now₀ to-add₀ left₀ now to-add left = running.clocks left (toLfsr to-add) (toNfsr to-add) (runningOf now) ≡ running.clocks left₀ (toLfsr to-add₀) (toNfsr to-add₀) (runningOf now₀)
+Inv-loop clocks now₀ to-add₀ left₀ now to-add left = running.clocks grain128 left (toLfsr to-add) (toNfsr to-add) (runningOf now) ≡ running.clocks grain128 left₀ (toLfsr to-add₀) (toNfsr to-add₀) (runningOf now₀)
 
 abbrev μ-loop : tie.MeasureT-loop
 μ-loop clocks now₀ to-add₀ left₀ now to-add left = left
@@ -34,7 +35,7 @@ loop-again : tie.Need-loop-again Inv-loop μ-loop
 loop-again c =
     let s = c .before in
     let l = s .before .before .loop in
-    clocks-less (l .left) 32 (toLfsr (l .to-add)) (toNfsr (l .to-add)) (runningOf (l .now)) (omega arith) (s .at-once .ensures) (c .left .ensures .lfsr) (c .left .ensures .nfsr) (l .inv)
+    clocks-less grain128 (l .left) 32 (toLfsr (l .to-add)) (toNfsr (l .to-add)) (runningOf (l .now)) (omega arith) (s .at-once .ensures) (c .left .ensures .lfsr) (c .left .ensures .nfsr) (l .inv)
 
 at-once-requires-2 : tie.Need-at-once-requires-2 Inv-loop μ-loop
 at-once-requires-2 c κs = search needs
