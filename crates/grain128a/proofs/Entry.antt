@@ -23,7 +23,7 @@ use Rattle.refusals.proofs.LastRow.{settled-failed, settled-success}
 use Rattle.limits.specs.Limits.{messageLimit}
 use Rattle.mode_checks.specs.Order.{unauthenticated}
 use Rattle.mode_checks.proofs.Rows.{AuthenticatedClear}
-use Rattle.preoutput.specs.Generator.{Generator}
+use Rattle.generators.specs.Generator.{Generator}
 use Rattle.preoutput.specs.Words.{generatorOf}
 use Rattle.authenticator.specs.Cutting as authenticator
 use Rattle.machine.specs.declared.edition.Edition.{Edition}

@@ -9,8 +9,8 @@ use lib.ListN.{length, getD}
 use Rattle.bits.specs.Bit.{_⊻_}
 use Rattle.bits.specs.Strings.{shift}
 use Rattle.bits.proofs.Sum.{getD-sum}
-use Rattle.strokes.specs.Strokes.{listed}
-use Rattle.strokes.proofs.Listed.{length-listed, places-listed}
+use Rattle.generators.specs.Strokes.{listed}
+use Rattle.generators.proofs.Listed.{length-listed, places-listed}
 use Rattle.machine.specs.declared.edition.Edition.the-variants.{First}
 use Rattle.machine.specs.Machine.{run}
 use Rattle.machine.specs.Laws.{preoutputAt}

@@ -11,13 +11,13 @@ use Rattle.bits.specs.Bytes.{word}
 use Rattle.bits.specs.Strings.{zeros}
 use Rattle.bits.specs.Times.{times}
 use Rattle.bits.proofs.Times.{times-add}
+use Rattle.generators.specs.Generator.{Generator, preoutput, plain, every}
+use Rattle.generators.specs.Strokes.{listed}
+use Rattle.generators.proofs.Listed.{listed-agrees, length-listed, every-listed}
 use Rattle.preoutput.specs.declared.Registers.{Registers}
-use Rattle.preoutput.specs.Algebra.{single}
-use Rattle.preoutput.specs.Generator.{Generator, preoutput, plain, every}
+use Rattle.preoutput.specs.Functions.{grain128}
 use Rattle.preoutput.specs.Words.{generatorOf}
 use Rattle.strokes.specs.Streams.{Keystreams}
-use Rattle.strokes.specs.Strokes.{listed}
-use Rattle.strokes.proofs.Listed.{listed-agrees, length-listed, every-listed}
 use Rattle.authenticator.specs.Words.{authenticatorOf}
 use Rattle.authenticator.specs.Cutting as authenticator
 use Rattle.machine.specs.declared.edition.Edition.the-variants.{First}
@@ -30,13 +30,13 @@ use Rattle.grain128a.specs.StartUp.{warmed, preoutputOf, filled, initial
 use Rattle.grain128a.specs.Laws.{StartsSized}
 
 -- The pre-outputs of n clocks, and of n clocks after k.
-pub every-preoutput : (n : ℕ) (g : Generator Bool) → every single 1 n g ≡ listed n (preoutputOf g)
+pub every-preoutput : (n : ℕ) (g : Generator Bool) → every grain128 1 n g ≡ listed n (preoutputOf g)
 unfolding preoutputOf
-every-preoutput n g = every-listed 1 n g ∙ listed-agrees n _ _ (λ i h. ap (λ (k : ℕ). preoutput single (times k (plain single) g)) (one-mul i))
+every-preoutput n g = every-listed grain128 1 n g ∙ listed-agrees n _ _ (λ i h. ap (λ (k : ℕ). preoutput grain128 (times k (plain grain128) g)) (one-mul i))
 
-pub preoutput-later : (k i : ℕ) (g : Generator Bool) → preoutputOf (times k (plain single) g) i ≡ preoutputOf g (k + i)
+pub preoutput-later : (k i : ℕ) (g : Generator Bool) → preoutputOf (times k (plain grain128) g) i ≡ preoutputOf g (k + i)
 unfolding preoutputOf
-preoutput-later k i g = ap (preoutput single) (times-add (plain single) k i g)
+preoutput-later k i g = ap (preoutput grain128) (times-add (plain grain128) k i g)
 
 -- A word with 32 bits has them at its end.
 last-places : (k : ℕ) (s : List Bool) → word 64 k ≡ zeros 32 ++ s → drop 32 (word 64 k) ≡ s
@@ -47,7 +47,7 @@ pub filled-words : (g : Generator Bool) (r₁ r₂ : Registers) (k₁ k₂ : ℕ
 unfolding cut stateOf filled authenticator.cut authenticatorOf
 filled-words g r₁ r₂ k₁ k₂ first second = λ i. record {
   edition = First;
-  generator = (second .generator ∙ ap (times 32 (plain single)) (first .generator) ∙ times-add (plain single) 32 32 g) i;
+  generator = (second .generator ∙ ap (times 32 (plain grain128)) (first .generator) ∙ times-add (plain grain128) 32 32 g) i;
   authenticator = record {
     accumulator = (last-places k₁ _ (first .keystream) ∙ every-preoutput 32 g) i;
     register =

@@ -5,7 +5,7 @@ use mathlib.Core.List.{List, [], _∷_, _++_}
 use Prim.Native.Nat.{ℕ, _+_, _-_, _*_, _/_}
 use lib.ListN.{length, drop}
 use Rattle.bits.specs.Strings.{zeros}
-use Rattle.strokes.specs.Strokes.{listed}
+use Rattle.generators.specs.Strokes.{listed}
 use Rattle.machine.specs.Machine.{run, encipher, decipher}
 use Rattle.tagged.specs.Cipher.{Cipher}
 use Rattle.grain128a.specs.Bits.{bits, bytes, flip}

@@ -1,8 +1,8 @@
 // Start-up: the clocks that warm the loaded registers up, and those that fill accumulator and register.
 ghost use mathlib.Core.Path.{_≡_};
 ghost use Rattle.bits.specs.Times.{times};
-ghost use Rattle.preoutput.specs.Algebra.{single};
-ghost use Rattle.preoutput.specs.Generator.{fedBack};
+ghost use Rattle.generators.specs.Generator.{fedBack};
+ghost use Rattle.preoutput.specs.Functions.{grain128};
 ghost use Rattle.preoutput.specs.Words.{generatorOf};
 ghost use Rattle.machine.specs.Engine.{stateOf};
 ghost use Rattle.machine.specs.Laws as machine;
@@ -16,7 +16,7 @@ use strokes::streams;
 
 // From the loaded registers to those whose clocks give pre-output 0, 1 and so on.
 pub fn warm(loaded: Registers) -> Registers
-    ensures { λ r. ⌜ generatorOf r ≡ times 256 (fedBack single) (generatorOf «loaded») ⌝ }
+    ensures { λ r. ⌜ generatorOf r ≡ times 256 (fedBack grain128) (generatorOf «loaded») ⌝ }
 {
     feeding::feed_back(loaded, 256)
 }

@@ -13,10 +13,10 @@ use Rattle.bits.specs.Strings.{_⊞_, places}
 use Rattle.bits.specs.Times.{times}
 use Rattle.bits.proofs.Lowest.{word-xor}
 use Rattle.bits.proofs.Word.{length-word, word-agrees}
+use Rattle.generators.specs.Generator.{Generator, preoutput, plain, every}
 use Rattle.preoutput.specs.declared.Registers.{Registers}
 use Rattle.strokes.specs.declared.streams.Streamed.{Streamed}
-use Rattle.preoutput.specs.Algebra.{single}
-use Rattle.preoutput.specs.Generator.{Generator, preoutput, plain, every}
+use Rattle.preoutput.specs.Functions.{grain128}
 use Rattle.preoutput.specs.Words.{generatorOf}
 use Rattle.strokes.specs.Streams.{Keystreams, Streams}
 use Rattle.bits.proofs.Slides.{lowest-bits}
@@ -41,29 +41,29 @@ bits-run n e m s t fits streams absorbed = λ i. record { edition = sym (run-edi
     st = stateOf e
 
     ran : generatorOf (s .registers) ≡ run st (word n m) .generator
-    ran = streams .keystreams .generator ∙ sym (run-clocked st (word n m) ∙ ap (λ (k : ℕ). times (2 * k) (plain single) (st .generator)) (length-word n m))
+    ran = streams .keystreams .generator ∙ sym (run-clocked st (word n m) ∙ ap (λ (k : ℕ). times (2 * k) (plain grain128) (st .generator)) (length-word n m))
 
     tagged : authenticatorOf t ≡ run st (word n m) .authenticator
     tagged =
         absorbed ∙ ap (λ (new : List Bool). absorbAll (st .authenticator) (word n m) (places new)) (lowest-bits n (s .authentication) _ fits (streams .authentication))
         ∙ sym
         (run-authenticator st (word n m)
-        ∙ absorbAll-agrees (st .authenticator) (word n m) (registerBits (st .generator)) (places (every single 2 n (plain single (st .generator))))
+        ∙ absorbAll-agrees (st .authenticator) (word n m) (registerBits (st .generator)) (places (every grain128 2 n (plain grain128 (st .generator))))
         (λ i h. registerBits-places n i (st .generator) (omega (arith, length-word n m))))
 
 -- The keystream of their clocks: the lowest bits of a word, and of its remainder.
-pub bits-keystream : {p : ℕ} {g : Generator Bool} {r : Registers} {k : ℕ} (n : ℕ) → n ≤ 64 → Keystreams p n g r k → word n k ≡ every single p n g
+pub bits-keystream : {p : ℕ} {g : Generator Bool} {r : Registers} {k : ℕ} (n : ℕ) → n ≤ 64 → Keystreams p n g r k → word n k ≡ every grain128 p n g
 bits-keystream {k = k} n fits keystreams = lowest-bits n k _ fits (keystreams .keystream)
 
 pub word-remainder : (n x : ℕ) → word n (x % 2 ^ n) ≡ word n x
 word-remainder n x = word-agrees n (x % 2 ^ n) x (mod-mod x (2 ^ n))
 
 -- n bits with their keystream bits added.
-pub bits-crypt : (n : ℕ) (sealing : Bool) (e : Engine) (x k : ℕ) → word n k ≡ every single 2 n (generatorOf (e .registers)) → word n (bitXor x k) ≡ crypt sealing (stateOf e) (word n x)
+pub bits-crypt : (n : ℕ) (sealing : Bool) (e : Engine) (x k : ℕ) → word n k ≡ every grain128 2 n (generatorOf (e .registers)) → word n (bitXor x k) ≡ crypt sealing (stateOf e) (word n x)
 unfolding stateOf
 bits-crypt n sealing e x k keystream =
     word-xor n x k ∙ ap (λ (r : List Bool). word n x ⊞ r) keystream
-    ∙ sym (crypt-sum sealing (stateOf e) (word n x) ∙ ap (λ (j : ℕ). word n x ⊞ every single 2 j (generatorOf (e .registers))) (length-word n x))
+    ∙ sym (crypt-sum sealing (stateOf e) (word n x) ∙ ap (λ (j : ℕ). word n x ⊞ every grain128 2 j (generatorOf (e .registers))) (length-word n x))
 
 -- What the machine takes: the bits given when sealing, those that come out when opening.
 pub taken : (n : ℕ) (sealing b : Bool) (x y m : ℕ) → sealing ≡ b → m ≡ cond b x y → word n m ≡ cond sealing (word n x) (word n y)
@@ -71,17 +71,17 @@ taken n sealing true x y m e p = ap (word n) p ∙ sym (ap (λ (d : Bool). cond 
 taken n sealing false x y m e p = ap (word n) p ∙ sym (ap (λ (d : Bool). cond d (word n x) (word n y)) e)
 
 -- The engine after a single bit, from its two clocks.
-pub bit-run : (e : Engine) (m new : ℕ) (between after : Registers) (t : Tagger) → generatorOf between ≡ plain single (generatorOf (e .registers))
-    → new ≡ digit (preoutput single (generatorOf between)) → generatorOf after ≡ plain single (generatorOf between)
+pub bit-run : (e : Engine) (m new : ℕ) (between after : Registers) (t : Tagger) → generatorOf between ≡ plain grain128 (generatorOf (e .registers))
+    → new ≡ digit (preoutput grain128 (generatorOf between)) → generatorOf after ≡ plain grain128 (generatorOf between)
     → authenticatorOf t ≡ absorb (authenticatorOf (e .tagger)) (lowest m) (lowest new)
     → stateOf record { edition = e .edition; registers = after; tagger = t } ≡ run (stateOf e) (lowest m ∷ [])
 unfolding stateOf run step
 bit-run e m new between after t first output second absorbed = λ i. record {
   edition = e .edition;
-  generator = (second ∙ ap (plain single) first) i;
+  generator = (second ∙ ap (plain grain128) first) i;
   authenticator =
       (absorbed
-      ∙ ap (absorb (authenticatorOf (e .tagger)) (lowest m)) (ap lowest output ∙ lowest-digit (preoutput single (generatorOf between)) ∙ ap (preoutput single) first)) i;
+      ∙ ap (absorb (authenticatorOf (e .tagger)) (lowest m)) (ap lowest output ∙ lowest-digit (preoutput grain128 (generatorOf between)) ∙ ap (preoutput grain128) first)) i;
 }
   where
     lowest-digit : (b : Bool) → lowest (digit b) ≡ b

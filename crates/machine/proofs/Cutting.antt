@@ -8,8 +8,8 @@ use native.Mathlib.Omega.{arith}
 use lib.ListN.{length, length-append}
 use Rattle.bits.specs.Bytes.{word}
 use Rattle.bits.proofs.Word.{length-word}
-use Rattle.preoutput.specs.Algebra.{single}
-use Rattle.preoutput.specs.Generator.{preoutput, plain}
+use Rattle.generators.specs.Generator.{preoutput, plain}
+use Rattle.preoutput.specs.Functions.{grain128}
 use Rattle.preoutput.specs.Words.{generatorOf}
 use Rattle.authenticator.specs.Words.{authenticatorOf}
 use Rattle.authenticator.proofs.Cutting.{cutting}
@@ -25,7 +25,7 @@ module _ (k w : ℕ) (left : k < w) where
   cut-step st m sized = λ i. record {
     edition = st .edition;
     generator = step st m .generator;
-    authenticator = cutting k w left (st .authenticator) (sized .authenticator) .absorb m (preoutput single (plain single (st .generator))) i;
+    authenticator = cutting k w left (st .authenticator) (sized .authenticator) .absorb m (preoutput grain128 (plain grain128 (st .generator))) i;
   }
 
   cut-run : (st : State) (s : List Bool) → Sized w st → cut k (run st s) ≡ run (cut k st) s

@@ -8,9 +8,9 @@ use lib.ListN.{length, getD}
 use Rattle.bits.specs.Bit.{_⊻_}
 use Rattle.bits.specs.Strings.{_⊞_, zeros, shift}
 use Rattle.bits.specs.Times.{times}
-use Rattle.preoutput.specs.Algebra.{single}
-use Rattle.preoutput.specs.Generator.{preoutput, plain}
-use Rattle.preoutput.specs.Generator as generator
+use Rattle.generators.specs.Generator.{preoutput, plain}
+use Rattle.generators.specs.Generator as generator
+use Rattle.preoutput.specs.Functions.{grain128}
 use Rattle.authenticator.specs.Authenticator as authenticator
 use Rattle.authenticator.specs.ClosedForm.{registersAt}
 use Rattle.authenticator.specs.Cutting as cutting
@@ -34,7 +34,7 @@ pub record Independent (st : State) (s t : List Bool) : Type 0 where
 
 -- The pre-output of clock k, counted from the starting state.
 unfoldable pub preoutputAt : State → (k : ℕ) → Bool
-preoutputAt st k = preoutput single (times k (plain single) (st .generator))
+preoutputAt st k = preoutput grain128 (times k (plain grain128) (st .generator))
 
 -- With i bits of the string behind it, the machine gives the pre-output of clock 2i as the keystream bit, and at the next bit its
 -- register takes that of clock 2i + 1.

@@ -3,8 +3,8 @@
 use mathlib.Core.Bool.{Bool, true, false, cond}
 use mathlib.Core.List.{List, [], _∷_, foldl}
 use Rattle.bits.specs.Bit.{_⊻_}
-use Rattle.preoutput.specs.Algebra.{single}
-use Rattle.preoutput.specs.Generator.{Generator, preoutput, plain}
+use Rattle.generators.specs.Generator.{Generator, preoutput, plain}
+use Rattle.preoutput.specs.Functions.{grain128}
 use Rattle.authenticator.specs.Authenticator.{Authenticator, absorb}
 use Rattle.machine.specs.declared.edition.Edition.{Edition}
 
@@ -17,15 +17,15 @@ pub record State : Type 0 where
 
 -- The pre-output of the first of a string bit's two clocks.
 unfoldable pub keystreamBit : State → Bool
-keystreamBit st = preoutput single (st .generator)
+keystreamBit st = preoutput grain128 (st .generator)
 
 -- One bit of the string, in two plain clocks. The pre-output of the second goes to the register, after the register's content has
 -- been added into the accumulator if the bit is 1.
 unfoldable pub step : State → Bool → State
 step st m = record {
   edition = st .edition;
-  generator = plain single (plain single (st .generator));
-  authenticator = absorb (st .authenticator) m (preoutput single (plain single (st .generator)));
+  generator = plain grain128 (plain grain128 (st .generator));
+  authenticator = absorb (st .authenticator) m (preoutput grain128 (plain grain128 (st .generator)));
 }
 
 unfoldable pub run : State → List Bool → State

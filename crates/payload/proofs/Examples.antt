@@ -2,7 +2,7 @@
 -- Assumes nothing.
 use mathlib.Core.Path.{refl}
 use Rattle.bits.specs.Bytes.{word, bits}
-use Rattle.preoutput.specs.Generator.{preoutput, clock}
+use Rattle.generators.specs.Generator.{preoutput, clock}
 use Rattle.authenticator.specs.Authenticator.{absorb, add, move}
 use Rattle.startup.specs.StartUp.{loaded}
 use Rattle.startup.specs.Editions.{ordered, bitsIn}

@@ -7,8 +7,8 @@ use native.Mathlib.Omega.{arith}
 use lib.ListN.{length, replicate, length-append, length-replicate}
 use Rattle.bits.specs.Times.{inTurn}
 use Rattle.bits.proofs.Times.{inTurn-append, inTurn-replicate}
-use Rattle.preoutput.specs.Algebra.{single}
-use Rattle.preoutput.specs.Generator.{plain}
+use Rattle.generators.specs.Generator.{plain}
+use Rattle.preoutput.specs.Functions.{grain128}
 use Rattle.machine.specs.declared.edition.Edition.{Edition}
 use Rattle.startup.specs.StartUp.{loaded}
 use Rattle.startup.specs.Editions.{bitsIn, initialised}
@@ -25,14 +25,14 @@ pub clocked : (ed : Edition) (key nonce ad message : List ℕ) → Clocked ed ke
 unfolding clocksOf jobClocks
 clocked ed key nonce ad message =
     let n = 2 * length (authenticated ed ad message) in
-    let running = replicate n (plain single) in
+    let running = replicate n (plain grain128) in
     let begun = startUp.clocked ed key nonce in
     record {
-      count = λ k. omega (arith, length-append (startUpClocks ed key) running, begun .count k, length-replicate n (plain single), length-authenticated ed ad message);
+      count = λ k. omega (arith, length-append (startUpClocks ed key) running, begun .count k, length-replicate n (plain grain128), length-authenticated ed ad message);
       lead =
           inTurn-append (startUpClocks ed key) running (loaded (bitsIn ed key) (bitsIn ed nonce))
           ∙ ap (inTurn running) (begun .lead)
-          ∙ inTurn-replicate n (plain single) (initialised ed key nonce .generator)
+          ∙ inTurn-replicate n (plain grain128) (initialised ed key nonce .generator)
           ∙ sym (run-clocked (initialised ed key nonce) (authenticated ed ad message));
     }
 

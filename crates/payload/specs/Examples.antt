@@ -7,8 +7,8 @@ use lib.ListN.{getD, set, replicate}
 use Rattle.bits.specs.Bit.{digit}
 use Rattle.bits.specs.Bytes.{bits}
 use Rattle.bits.specs.Strings.{zeros}
-use Rattle.preoutput.specs.Algebra.{single}
-use Rattle.preoutput.specs.Generator.{preoutput, fedBack}
+use Rattle.generators.specs.Generator.{preoutput, fedBack}
+use Rattle.preoutput.specs.Functions.{grain128}
 use Rattle.authenticator.specs.Authenticator.{absorb}
 use Rattle.machine.specs.declared.edition.Edition.the-variants.{First}
 use Rattle.startup.specs.StartUp.{loaded}
@@ -30,14 +30,14 @@ only n places = foldl (λ r k. set r k true) (zeros n) places
 -- The first pre-output of start-up, then the new LFSR bit and the new NFSR bit.
 abbrev pub firstClock : (key nonce : List ℕ) → List Bool
 firstClock key nonce =
-    preoutput single (loaded (bits key) (bits nonce))
-    ∷ getD (fedBack single (loaded (bits key) (bits nonce)) .lfsr) 127 false
-    ∷ getD (fedBack single (loaded (bits key) (bits nonce)) .nfsr) 127 false
+    preoutput grain128 (loaded (bits key) (bits nonce))
+    ∷ getD (fedBack grain128 (loaded (bits key) (bits nonce)) .lfsr) 127 false
+    ∷ getD (fedBack grain128 (loaded (bits key) (bits nonce)) .nfsr) 127 false
     ∷ []
 
 -- The pre-output of a generator with these places at 1.
 abbrev pub outputOf : (s b : List ℕ) → List Bool
-outputOf s b = preoutput single (record { lfsr = only 128 s; nfsr = only 128 b }) ∷ []
+outputOf s b = preoutput grain128 (record { lfsr = only 128 s; nfsr = only 128 b }) ∷ []
 
 abbrev pub examples : List Example
 examples =

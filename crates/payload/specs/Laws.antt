@@ -10,8 +10,8 @@ use Rattle.bits.specs.Bit.{_⊻_}
 use Rattle.bits.specs.Strings.{_⊞_, shift}
 use Rattle.bits.specs.Times.{inTurn}
 use Rattle.tagged.specs.Payload as tagged
-use Rattle.preoutput.specs.Algebra.{single}
-use Rattle.preoutput.specs.Generator.{Generator, plain}
+use Rattle.generators.specs.Generator.{Generator, plain}
+use Rattle.preoutput.specs.Functions.{grain128}
 use Rattle.authenticator.specs.ClosedForm.{registersAt}
 use Rattle.machine.specs.declared.edition.Edition.{Edition}
 use Rattle.machine.specs.Machine.{keystreamBit, run}
@@ -35,7 +35,7 @@ pub record Lengths (e : Edition) (key nonce ad message : List ℕ) : Type 0 wher
 
 -- The clocks of a job in their order: those of start-up, and two plain ones for each bit of the string.
 unfoldable pub clocksOf : Edition → (key ad message : List ℕ) → List (Generator Bool → Generator Bool)
-clocksOf e key ad message = startUpClocks e key ++ replicate (2 * length (authenticated e ad message)) (plain single)
+clocksOf e key ad message = startUpClocks e key ++ replicate (2 * length (authenticated e ad message)) (plain grain128)
 
 -- There are as many as is said, and they lead from the loaded registers to those after the final 1.
 pub record Clocked (e : Edition) (key nonce ad message : List ℕ) : Type 0 where

@@ -10,8 +10,8 @@ use lib.ListN.{length, take, drop, replicate, length-append, length-map, length-
 use Rattle.bits.specs.Bit.{_⊻_}
 use Rattle.bits.specs.Times.{times, inTurn}
 use Rattle.bits.proofs.Times.{inTurn-append, inTurn-replicate}
-use Rattle.preoutput.specs.Algebra.{single}
-use Rattle.preoutput.specs.Generator.{Generator, preoutput, clock, fedBack, fedBackWith, keyed}
+use Rattle.generators.specs.Generator.{Generator, preoutput, clock, fedBack, fedBackWith, keyed}
+use Rattle.preoutput.specs.Functions.{grain128}
 use Rattle.machine.specs.declared.edition.Edition.{Edition}
 use Rattle.machine.specs.declared.edition.Edition.the-variants.{First, Second}
 use Rattle.startup.specs.StartUp.{loaded, rekeyed}
@@ -22,21 +22,21 @@ use Rattle.startup.proofs.Sizes.{length-filling}
 
 -- A clock with each bit of a string, and one with each bit of two strings.
 abbrev withKey : List Bool → List (Generator Bool → Generator Bool)
-withKey = map (λ k g. keyed single g k)
+withKey = map (λ k g. keyed grain128 g k)
 
 abbrev withBoth : (ks ls : List Bool) → List (Generator Bool → Generator Bool)
-withBoth = zipWith (λ k l g. clock single g (preoutput single g ⊻ k) (preoutput single g ⊻ l))
+withBoth = zipWith (λ k l g. clock grain128 g (preoutput grain128 g ⊻ k) (preoutput grain128 g ⊻ l))
 
 withKey-in-turn : (ks : List Bool) (g : Generator Bool) → inTurn (withKey ks) g ≡ rekeyed g ks
 unfolding inTurn rekeyed
 withKey-in-turn [] g = refl
-withKey-in-turn (k ∷ ks) g = withKey-in-turn ks (keyed single g k)
+withKey-in-turn (k ∷ ks) g = withKey-in-turn ks (keyed grain128 g k)
 
-withBoth-in-turn : (ks ls : List Bool) (g : Generator Bool) → inTurn (withBoth ks ls) g ≡ fedBackWith single g ks ls
+withBoth-in-turn : (ks ls : List Bool) (g : Generator Bool) → inTurn (withBoth ks ls) g ≡ fedBackWith grain128 g ks ls
 unfolding inTurn fedBackWith zipWith
 withBoth-in-turn [] ls g = refl
 withBoth-in-turn (k ∷ ks) [] g = refl
-withBoth-in-turn (k ∷ ks) (l ∷ ls) g = withBoth-in-turn ks ls (clock single g (preoutput single g ⊻ k) (preoutput single g ⊻ l))
+withBoth-in-turn (k ∷ ks) (l ∷ ls) g = withBoth-in-turn ks ls (clock grain128 g (preoutput grain128 g ⊻ k) (preoutput grain128 g ⊻ l))
 
 length-withBoth : (ks ls : List Bool) → length ks ≡ length ls → length (withBoth ks ls) ≡ length ks
 unfolding zipWith
@@ -54,10 +54,10 @@ repeated-in-turn n f fs a = inTurn-append (replicate n f) fs a ∙ ap (inTurn fs
 -- All clocks but the 128 that fill.
 length-warming : (e : Edition) (key : List Bool) → length key ≡ 128 → length (warmingClocks e key) + 128 ≡ runningFrom e
 unfolding warmingClocks
-length-warming First key k = ap (λ (n : ℕ). n + 128) (length-replicate 256 (fedBack single))
+length-warming First key k = ap (λ (n : ℕ). n + 128) (length-replicate 256 (fedBack grain128))
 length-warming Second key k =
     ap (λ (n : ℕ). n + 128)
-    (length-repeated 320 (fedBack single) (withBoth (drop 64 key) (take 64 key))
+    (length-repeated 320 (fedBack grain128) (withBoth (drop 64 key) (take 64 key))
     ∙ ap (λ (n : ℕ). 320 + n) sixty-four)
   where
     sixty-four : length (withBoth (drop 64 key) (take 64 key)) ≡ 64
@@ -65,17 +65,17 @@ length-warming Second key k =
 
 warming-in-turn : (e : Edition) (key : List Bool) (g : Generator Bool) → inTurn (warmingClocks e key) g ≡ warmed e key g
 unfolding warmingClocks warmed
-warming-in-turn First key g = inTurn-replicate 256 (fedBack single) g
+warming-in-turn First key g = inTurn-replicate 256 (fedBack grain128) g
 warming-in-turn Second key g =
-    repeated-in-turn 320 (fedBack single) (withBoth (drop 64 key) (take 64 key)) g
-    ∙ withBoth-in-turn (drop 64 key) (take 64 key) (times 320 (fedBack single) g)
+    repeated-in-turn 320 (fedBack grain128) (withBoth (drop 64 key) (take 64 key)) g
+    ∙ withBoth-in-turn (drop 64 key) (take 64 key) (times 320 (fedBack grain128) g)
 
 pub clocked : (e : Edition) (key nonce : List ℕ) → Clocked e key nonce
 unfolding startUpClocks initialised started
 clocked e key nonce = record {
   count = λ k.
       length-append (warmingClocks e bits) (withKey (filling e bits))
-      ∙ ap (λ (n : ℕ). length (warmingClocks e bits) + n) (length-map (filling e bits) (λ k g. keyed single g k) ∙ length-filling e bits ∙ key-bits e key k)
+      ∙ ap (λ (n : ℕ). length (warmingClocks e bits) + n) (length-map (filling e bits) (λ k g. keyed grain128 g k) ∙ length-filling e bits ∙ key-bits e key k)
       ∙ length-warming e bits (key-bits e key k);
   lead =
       inTurn-append (warmingClocks e bits) (withKey (filling e bits)) (loaded bits (bitsIn e nonce))

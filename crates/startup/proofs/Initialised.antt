@@ -10,11 +10,11 @@ use lib.Seq.{take-at, drop-at, take-all}
 use Rattle.bits.specs.Bytes.{word}
 use Rattle.bits.specs.Strings.{zeros}
 use Rattle.bits.proofs.Word.{length-word}
+use Rattle.generators.specs.Generator.{Generator, preoutput, keyed}
 use Rattle.preoutput.specs.declared.Registers.{Registers}
 use Rattle.preoutput.specs.declared.Run.{Run}
 use Rattle.preoutput.specs.Words.{generatorOf}
-use Rattle.preoutput.specs.Algebra.{single}
-use Rattle.preoutput.specs.Generator.{Generator, preoutput, keyed}
+use Rattle.preoutput.specs.Functions.{grain128}
 use Rattle.authenticator.specs.Words.{authenticatorOf}
 use Rattle.machine.specs.declared.edition.Edition.{Edition}
 use Rattle.machine.specs.declared.edition.Edition.the-variants.{First, Second}
@@ -26,12 +26,12 @@ use Rattle.startup.proofs.Sizes.{length-preoutputs}
 
 rekeyed-append : (ks ls : List Bool) (g : Generator Bool) → rekeyed g (ks ++ ls) ≡ rekeyed (rekeyed g ks) ls
 unfolding rekeyed
-rekeyed-append ks ls g = foldl-append (keyed single) g ks ls
+rekeyed-append ks ls g = foldl-append (keyed grain128) g ks ls
 
 preoutputs-append : (ks ls : List Bool) (g : Generator Bool) → preoutputs g (ks ++ ls) ≡ preoutputs g ks ++ preoutputs (rekeyed g ks) ls
 unfolding preoutputs rekeyed
 preoutputs-append [] ls g = refl
-preoutputs-append (k ∷ ks) ls g = ap (λ (r : List Bool). preoutput single g ∷ r) (preoutputs-append ks ls (keyed single g k))
+preoutputs-append (k ∷ ks) ls g = ap (λ (r : List Bool). preoutput grain128 g ∷ r) (preoutputs-append ks ls (keyed grain128 g k))
 
 -- The state that start-up makes, as its two fillings leave it: the first adds the first half of what is added, the second the other.
 module _ (e : Edition) (key nonce : List Bool) (w : Registers) (first second : Run) (a b : ℕ)

@@ -8,9 +8,9 @@ use native.Mathlib.Omega.{arith}
 use lib.ListN.{take-append-drop, length, getD, take, drop, replicate, length-append, length-drop, length-replicate, getD-replicate, List·getD-append}
 use lib.Seq.{take-all, getD-append-add, getD-at}
 use Rattle.bits.specs.Bytes.{word}
+use Rattle.generators.specs.Generator.{Sized}
 use Rattle.preoutput.specs.declared.Registers.{Registers}
 use Rattle.preoutput.specs.Words.{generatorOf}
-use Rattle.preoutput.specs.Generator.{Sized}
 use Rattle.machine.specs.declared.edition.Edition.{Edition}
 use Rattle.key.specs.Sizes.{keySize, nonceSize}
 use Rattle.startup.specs.StartUp.{loaded}

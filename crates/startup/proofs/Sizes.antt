@@ -8,9 +8,9 @@ use native.Mathlib.Omega.{arith}
 use lib.ListN.{length, take, drop, length-take, length-drop, length-replicate}
 use Rattle.bits.specs.Times.{times}
 use Rattle.bits.proofs.Times.{times-keeps}
-use Rattle.preoutput.specs.Algebra.{single}
-use Rattle.preoutput.specs.Generator.{Generator, Sized, plain, fedBack, fedBackWith, keyed}
-use Rattle.preoutput.proofs.Sizes.{clock-sized}
+use Rattle.generators.specs.Generator.{Generator, Sized, plain, fedBack, fedBackWith, keyed}
+use Rattle.generators.proofs.Sizes.{clock-sized}
+use Rattle.preoutput.specs.Functions.{grain128}
 use Rattle.machine.specs.declared.edition.Edition.{Edition}
 use Rattle.machine.specs.declared.edition.Edition.the-variants.{First, Second}
 use Rattle.machine.specs.Laws as machine
@@ -20,27 +20,27 @@ use Rattle.startup.specs.Laws.{StartsSized}
 use Rattle.startup.proofs.Loaded.{key-bits, nonce-bits, loaded-sized}
 
 -- Clocks keep the sizes of the registers.
-pub fed-back-sized : (n : ℕ) (g : Generator Bool) → Sized 128 g → Sized 128 (times n (fedBack single) g)
-fed-back-sized = times-keeps (fedBack single) (Sized 128) (λ g. clock-sized single 128 g _ _ (omega arith))
+pub fed-back-sized : (n : ℕ) (g : Generator Bool) → Sized 128 g → Sized 128 (times n (fedBack grain128) g)
+fed-back-sized = times-keeps (fedBack grain128) (Sized 128) (λ g. clock-sized grain128 128 g _ _ (omega arith))
 
-pub plain-sized : (n : ℕ) (g : Generator Bool) → Sized 128 g → Sized 128 (times n (plain single) g)
-plain-sized = times-keeps (plain single) (Sized 128) (λ g. clock-sized single 128 g _ _ (omega arith))
+pub plain-sized : (n : ℕ) (g : Generator Bool) → Sized 128 g → Sized 128 (times n (plain grain128) g)
+plain-sized = times-keeps (plain grain128) (Sized 128) (λ g. clock-sized grain128 128 g _ _ (omega arith))
 
-fed-back-with-sized : (ks ls : List Bool) (g : Generator Bool) → Sized 128 g → Sized 128 (fedBackWith single g ks ls)
+fed-back-with-sized : (ks ls : List Bool) (g : Generator Bool) → Sized 128 g → Sized 128 (fedBackWith grain128 g ks ls)
 unfolding fedBackWith
 fed-back-with-sized [] ls g sized = sized
 fed-back-with-sized (k ∷ ks) [] g sized = sized
-fed-back-with-sized (k ∷ ks) (l ∷ ls) g sized = fed-back-with-sized ks ls _ (clock-sized single 128 g _ _ (omega arith) sized)
+fed-back-with-sized (k ∷ ks) (l ∷ ls) g sized = fed-back-with-sized ks ls _ (clock-sized grain128 128 g _ _ (omega arith) sized)
 
 rekeyed-sized : (ks : List Bool) (g : Generator Bool) → Sized 128 g → Sized 128 (rekeyed g ks)
 unfolding rekeyed
 rekeyed-sized [] g sized = sized
-rekeyed-sized (k ∷ ks) g sized = rekeyed-sized ks (keyed single g k) (clock-sized single 128 g _ _ (omega arith) sized)
+rekeyed-sized (k ∷ ks) g sized = rekeyed-sized ks (keyed grain128 g k) (clock-sized grain128 128 g _ _ (omega arith) sized)
 
 pub length-preoutputs : (ks : List Bool) (g : Generator Bool) → length (preoutputs g ks) ≡ length ks
 unfolding preoutputs
 length-preoutputs [] g = refl
-length-preoutputs (k ∷ ks) g = ap suc (length-preoutputs ks (keyed single g k))
+length-preoutputs (k ∷ ks) g = ap suc (length-preoutputs ks (keyed grain128 g k))
 
 warmed-sized : (e : Edition) (key : List Bool) (g : Generator Bool) → Sized 128 g → Sized 128 (warmed e key g)
 unfolding warmed

@@ -8,8 +8,8 @@ use Rattle.bits.specs.Bytes.{bits, bytes, flip}
 use Rattle.bits.specs.Strings.{zeros}
 use Rattle.bits.specs.Times.{times}
 use Rattle.bits.specs.Turned.{turned}
-use Rattle.preoutput.specs.Algebra.{single}
-use Rattle.preoutput.specs.Generator.{Generator, fedBack, fedBackWith}
+use Rattle.generators.specs.Generator.{Generator, fedBack, fedBackWith}
+use Rattle.preoutput.specs.Functions.{grain128}
 use Rattle.machine.specs.declared.edition.Edition.{Edition}
 use Rattle.machine.specs.declared.edition.Edition.the-variants.{First, Second}
 use Rattle.machine.specs.Machine.{State}
@@ -32,8 +32,8 @@ ordered Second s = map turned s
 -- pre-output back. In the second clocks 0 to 319 do; clocks 320 to 383 do too, and add key bits 64 to 127 to the new LFSR bits and key bits 0
 -- to 63 to the new NFSR bits.
 unfoldable pub warmed : Edition → (key : List Bool) → Generator Bool → Generator Bool
-warmed First key g = times 256 (fedBack single) g
-warmed Second key g = fedBackWith single (times 320 (fedBack single) g) (drop 64 key) (take 64 key)
+warmed First key g = times 256 (fedBack grain128) g
+warmed Second key g = fedBackWith grain128 (times 320 (fedBack grain128) g) (drop 64 key) (take 64 key)
 
 -- What the 128 clocks that fill add to the new LFSR bits: in the first edition the key, in the second nothing, so that they are plain.
 unfoldable pub filling : Edition → (key : List Bool) → List Bool

@@ -9,8 +9,8 @@ use Rattle.bits.specs.Bit.{_⊻_}
 use Rattle.bits.specs.Bytes.{Bytes, bit}
 use Rattle.bits.specs.Strings.{_⊞_}
 use Rattle.bits.specs.Times.{inTurn}
-use Rattle.preoutput.specs.Algebra.{single}
-use Rattle.preoutput.specs.Generator.{Generator, preoutput, clock, fedBack, keyed}
+use Rattle.generators.specs.Generator.{Generator, preoutput, clock, fedBack, keyed}
+use Rattle.preoutput.specs.Functions.{grain128}
 use Rattle.machine.specs.declared.edition.Edition.{Edition}
 use Rattle.machine.specs.declared.edition.Edition.the-variants.{First, Second}
 use Rattle.machine.specs.Laws.{Sized}
@@ -43,14 +43,14 @@ StartsSized = (e : Edition) (key nonce : List ℕ) → length key ≡ keySize �
 
 -- The clocks before those that fill, in their order.
 unfoldable pub warmingClocks : Edition → (key : List Bool) → List (Generator Bool → Generator Bool)
-warmingClocks First key = replicate 256 (fedBack single)
+warmingClocks First key = replicate 256 (fedBack grain128)
 warmingClocks Second key =
-    replicate 320 (fedBack single)
-    ++ zipWith (λ k l g. clock single g (preoutput single g ⊻ k) (preoutput single g ⊻ l)) (drop 64 key) (take 64 key)
+    replicate 320 (fedBack grain128)
+    ++ zipWith (λ k l g. clock grain128 g (preoutput grain128 g ⊻ k) (preoutput grain128 g ⊻ l)) (drop 64 key) (take 64 key)
 
 -- All clocks of start-up.
 unfoldable pub startUpClocks : Edition → (key : List ℕ) → List (Generator Bool → Generator Bool)
-startUpClocks e key = warmingClocks e (bitsIn e key) ++ map (λ k g. keyed single g k) (filling e (bitsIn e key))
+startUpClocks e key = warmingClocks e (bitsIn e key) ++ map (λ k g. keyed grain128 g k) (filling e (bitsIn e key))
 
 -- There are as many as precede the clock at which running starts, and they lead from the loaded registers to those in which start-up ends.
 pub record Clocked (e : Edition) (key nonce : List ℕ) : Type 0 where

@@ -2,8 +2,8 @@
 use mathlib.Core.Bool.{Bool, true, false}
 use mathlib.Core.List.{List, [], _∷_, _++_, foldl}
 use lib.ListN.{replicate}
-use Rattle.preoutput.specs.Algebra.{single}
-use Rattle.preoutput.specs.Generator.{Generator, preoutput, keyed}
+use Rattle.generators.specs.Generator.{Generator, preoutput, keyed}
+use Rattle.preoutput.specs.Functions.{grain128}
 
 -- The NFSR is the key. LFSR places 0 to 95 are the nonce, 96 to 126 are ones, 127 is zero.
 unfoldable pub loaded : (key nonce : List Bool) → Generator Bool
@@ -11,9 +11,9 @@ loaded key nonce = record { lfsr = nonce ++ replicate 31 true ++ (false ∷ []);
 
 -- A clock for each bit of a string, which is added to the new LFSR bit only. With a zero it is a plain clock.
 unfoldable pub rekeyed : Generator Bool → (added : List Bool) → Generator Bool
-rekeyed = foldl (keyed single)
+rekeyed = foldl (keyed grain128)
 
 -- The pre-outputs of those clocks.
 unfoldable pub preoutputs : Generator Bool → (added : List Bool) → List Bool
 preoutputs g [] = []
-preoutputs g (k ∷ ks) = preoutput single g ∷ preoutputs (keyed single g k) ks
+preoutputs g (k ∷ ks) = preoutput grain128 g ∷ preoutputs (keyed grain128 g k) ks

@@ -2,8 +2,8 @@
 ghost use mathlib.Core.Path.{_≡_};
 ghost use Rattle.bits.specs.Bytes.{word};
 ghost use Rattle.bits.specs.Times.{times};
-ghost use Rattle.preoutput.specs.Algebra.{single};
-ghost use Rattle.preoutput.specs.Generator.{fedBack, fedBackWith};
+ghost use Rattle.generators.specs.Generator.{fedBack, fedBackWith};
+ghost use Rattle.preoutput.specs.Functions.{grain128};
 ghost use Rattle.preoutput.specs.Words.{generatorOf};
 use preoutput::Adding;
 use preoutput::Registers;
@@ -11,7 +11,7 @@ use preoutput::Run;
 
 // Any number of them, with nothing else added.
 pub fn feed_back(g: Registers, clocks: usize) -> Registers
-    ensures { λ r. ⌜ generatorOf r ≡ times clocks (fedBack single) (generatorOf g) ⌝ }
+    ensures { λ r. ⌜ generatorOf r ≡ times clocks (fedBack grain128) (generatorOf g) ⌝ }
 {
     let empty = Run {
         registers: g,
@@ -30,7 +30,7 @@ pub fn feed_back(g: Registers, clocks: usize) -> Registers
 
 // Sixty-four, with the bits of a word added to the new bits of each register too.
 pub fn feed_back_with(g: Registers, to_lfsr: u64, to_nfsr: u64) -> Registers
-    ensures { λ r. ⌜ generatorOf r ≡ fedBackWith single (generatorOf g) (word 64 «to_lfsr») (word 64 «to_nfsr») ⌝ }
+    ensures { λ r. ⌜ generatorOf r ≡ fedBackWith grain128 (generatorOf g) (word 64 «to_lfsr») (word 64 «to_nfsr») ⌝ }
 {
     let empty = Run {
         registers: g,

@@ -13,8 +13,8 @@ use Rattle.bits.specs.Bit.{digit}
 use Rattle.bits.specs.Bytes.{bits, bytes}
 use Rattle.bits.specs.Times.{inTurn}
 use Rattle.bits.proofs.Times.{inTurn-append, inTurn-replicate}
-use Rattle.preoutput.specs.Algebra.{single}
-use Rattle.preoutput.specs.Generator.{plain}
+use Rattle.generators.specs.Generator.{plain}
+use Rattle.preoutput.specs.Functions.{grain128}
 use Rattle.machine.specs.declared.edition.Edition.{Edition}
 use Rattle.machine.specs.Machine.{State, run, encipher}
 use Rattle.machine.proofs.Machine.{run-append, run-edition}
@@ -135,21 +135,21 @@ module _ (h : History) where
   unfolding clocksOf clocksSoFar jobClocks
   clocked l =
       let n = 2 * length (taken h) in
-      let running = replicate n (plain single) in
+      let running = replicate n (plain grain128) in
       let begins = startUp.clocked e (h .key) (h .nonce) in
       record {
         count =
             length-append (startUpClocks e (h .key)) running
-            ∙ ap₂ _+_ (begins .count (l .keySized) ∙ ap runningFrom (sym edition-reached)) (length-replicate n (plain single) ∙ ap (λ (k : ℕ). 2 * k) length-taken);
+            ∙ ap₂ _+_ (begins .count (l .keySized) ∙ ap runningFrom (sym edition-reached)) (length-replicate n (plain grain128) ∙ ap (λ (k : ℕ). 2 * k) length-taken);
         job = λ ended.
             length-append (startUpClocks e (h .key)) running
-            ∙ ap₂ _+_ (begins .count (l .keySized)) (length-replicate n (plain single) ∙ ap (λ (k : ℕ). 2 * k) (length-taken ∙ whole ended (l .endedBehindAd ended)));
+            ∙ ap₂ _+_ (begins .count (l .keySized)) (length-replicate n (plain grain128) ∙ ap (λ (k : ℕ). 2 * k) (length-taken ∙ whole ended (l .endedBehindAd ended)));
         most =
-            omega (arith, length-append (startUpClocks e (h .key)) running, begins .count (l .keySized), length-replicate n (plain single), length-taken, at-most (l .adFits), job-grows e (h .announced) (length (h .text)) adLimit messageLimit (l .announcedFits) (l .textFits) .0);
+            omega (arith, length-append (startUpClocks e (h .key)) running, begins .count (l .keySized), length-replicate n (plain grain128), length-taken, at-most (l .adFits), job-grows e (h .announced) (length (h .text)) adLimit messageLimit (l .announcedFits) (l .textFits) .0);
         lead =
             inTurn-append (startUpClocks e (h .key)) running (loaded (bitsIn e (h .key)) (bitsIn e (h .nonce)))
             ∙ ap (inTurn running) (begins .lead)
-            ∙ inTurn-replicate n (plain single) (start .generator)
+            ∙ inTurn-replicate n (plain grain128) (start .generator)
             ∙ sym (unfold reached in (run-clocked start (taken h)));
       }
 

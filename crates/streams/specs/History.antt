@@ -4,8 +4,8 @@ use mathlib.Core.List.{List, [], _∷_, _++_, foldl}
 use Prim.Native.Nat.{ℕ, _*_}
 use lib.ListN.{length, take, replicate}
 use Rattle.bits.specs.Bit.{digit}
-use Rattle.preoutput.specs.Algebra.{single}
-use Rattle.preoutput.specs.Generator.{Generator, plain}
+use Rattle.generators.specs.Generator.{Generator, plain}
+use Rattle.preoutput.specs.Functions.{grain128}
 use Rattle.refusals.specs.declared.Answer.{Answer}
 use Rattle.refusals.specs.declared.Answer.the-variants.{Count, Refused}
 use Rattle.machine.specs.declared.edition.Edition.{Edition}
@@ -115,4 +115,4 @@ reached h = record {
 
 -- Its clocks in their order: those of start-up, and two plain ones for each bit.
 unfoldable pub clocksOf : History → List (Generator Bool → Generator Bool)
-clocksOf h = startUpClocks (h .edition) (h .key) ++ replicate (2 * length (taken h)) (plain single)
+clocksOf h = startUpClocks (h .edition) (h .key) ++ replicate (2 * length (taken h)) (plain grain128)
