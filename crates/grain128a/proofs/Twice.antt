@@ -8,10 +8,11 @@ use lib.Seq.{take-at}
 use Rattle.bits.specs.Bytes.{Bytes}
 use Rattle.refusals.specs.Outcome.{Outcome, success}
 use Rattle.limits.specs.Limits.{messageLimit}
+use Rattle.generators.proofs.Keystream as keystream
+use Rattle.preoutput.specs.Functions.{grain128}
 use Rattle.machine.specs.declared.edition.Edition.the-variants.{First}
-use Rattle.startup.proofs.Order.{length-flipIn}
+use Rattle.startup.proofs.Order.{length-flipIn, flipping}
 use Rattle.strings.specs.Strings as strings
-use Rattle.strings.proofs.ByteStrings.{withKeystream-twice}
 use Rattle.grain128a.specs.Bits.{flip}
 use Rattle.grain128a.specs.StartUp.{warmed}
 use Rattle.grain128a.specs.Payload.{withKeystream}
@@ -33,7 +34,7 @@ module _ (key nonce : List ℕ) where
   added-twice : (s : List ℕ) → Bytes s → withKeystream key nonce (withKeystream key nonce s) ≡ s
   added-twice s b =
       sym (ap (strings.withKeystream First 1 (warmed key nonce)) (added s) ∙ added (withKeystream key nonce s))
-      ∙ withKeystream-twice First 1 (warmed key nonce) s b
+      ∙ keystream.added-twice grain128 (flipping First) 1 (warmed key nonce) s b
 
 pub twice : Twice
 twice key nonce message out out′ b a room =

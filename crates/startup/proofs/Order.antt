@@ -16,6 +16,7 @@ use Rattle.bits.proofs.Packing.{bits-append, length-bits, length-bytes, bytes-b
 use Rattle.bits.proofs.Sum.{length-sum, sum-comm, sum-twice}
 use Rattle.bits.proofs.Turned.{word-turned, bits-turned-twice, turned-all-twice, Bytes-turned}
 use Rattle.bits.proofs.Word.{length-word, getD-word}
+use Rattle.generators.proofs.Keystream.{Flipping}
 use Rattle.machine.specs.declared.edition.Edition.{Edition}
 use Rattle.machine.specs.declared.edition.Edition.the-variants.{First, Second}
 use Rattle.startup.specs.Editions.{ordered, bitsIn, bytesIn, flipIn}
@@ -180,6 +181,9 @@ module _ (e : Edition) where
       ap (λ (u : List ℕ). ordered e (flip u (d ++ f))) (ordered-append e s t)
       ∙ ap (ordered e) (flip-append (ordered e s) (ordered e t) d f (in-order s d h))
       ∙ ordered-append e (flip (ordered e s) d) (flip (ordered e t) f)
+
+  pub flipping : Flipping (flipIn e)
+  flipping = record { length = length-flipIn; append = flipIn-append; twice = flipIn-twice }
 
   -- The bytes of the sum of a string's bits and flips.
   pub flipIn-bytes : (s : List ℕ) (d : List Bool) → bytesIn e (length s) (bitsIn e s ⊞ d) ≡ flipIn e s d

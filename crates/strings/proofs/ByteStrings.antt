@@ -8,32 +8,23 @@ use lib.ListN.{length}
 use Rattle.bits.specs.Bytes.{Bytes}
 use Rattle.bits.specs.Strings.{_⊞_}
 use Rattle.bits.proofs.Flip.{Flips}
-use Rattle.preoutput.specs.Algebra.{single}
-use Rattle.preoutput.specs.Generator.{Generator, every}
-use Rattle.preoutput.proofs.Spaced.{length-every}
+use Rattle.generators.specs.Generator.{Generator, every}
+use Rattle.generators.proofs.Spaced.{length-every}
+use Rattle.generators.proofs.Keystream.{length-added, added-twice}
+use Rattle.preoutput.specs.Functions.{grain128}
 use Rattle.machine.specs.declared.edition.Edition.{Edition}
 use Rattle.machine.specs.Machine.{State, crypt}
 use Rattle.machine.proofs.Machine.{crypt-sum, length-crypt}
 use Rattle.startup.specs.Editions.{bitsIn, bytesIn, flipIn}
-use Rattle.startup.proofs.Order.{length-bitsIn, bitsIn-bytesIn, length-flipIn, flipIn-bytes, flipIn-twice, flip-between}
+use Rattle.startup.proofs.Order.{length-bitsIn, bitsIn-bytesIn, length-flipIn, flipIn-bytes, flip-between, flipping}
 use Rattle.strings.specs.Strings.{withKeystream}
 use Rattle.strings.proofs.OverBytes.{cryptBytes}
 
-module _ (e : Edition) (p : ℕ) (g : Generator Bool) where
-  pub length-withKeystream : (s : List ℕ) → length (withKeystream e p g s) ≡ length s
-  length-withKeystream s = length-flipIn e s (every single p (8 * length s) g)
-
-  -- The keystream added twice gives the string back.
-  pub withKeystream-twice : (s : List ℕ) → Bytes s → withKeystream e p g (withKeystream e p g s) ≡ s
-  withKeystream-twice s h =
-      ap (λ (n : ℕ). flipIn e (withKeystream e p g s) (every single p (8 * n) g)) (length-withKeystream s)
-      ∙ flipIn-twice e s (every single p (8 * length s) g) h (length-every p (8 * length s) g)
-
-  -- With flips between, it leaves them alone.
-  pub withKeystream-between : (s : List ℕ) (d : List Bool) → Flips s d → withKeystream e p g (flipIn e (withKeystream e p g s) d) ≡ flipIn e s d
-  withKeystream-between s d h =
-      ap (λ (n : ℕ). flipIn e (flipIn e (withKeystream e p g s) d) (every single p (8 * n) g)) (length-flipIn e (withKeystream e p g s) d ∙ length-withKeystream s)
-      ∙ flip-between e s (every single p (8 * length s) g) d (length-every p (8 * length s) g) h
+-- The keystream added twice, with flips between, leaves these alone.
+withKeystream-between : (e : Edition) (p : ℕ) (g : Generator Bool) (s : List ℕ) (d : List Bool) → Flips s d → withKeystream e p g (flipIn e (withKeystream e p g s) d) ≡ flipIn e s d
+withKeystream-between e p g s d h =
+    ap (λ (n : ℕ). flipIn e (flipIn e (withKeystream e p g s) d) (every grain128 p (8 * n) g)) (length-flipIn e (withKeystream e p g s) d ∙ length-added grain128 (flipping e) p g s)
+    ∙ flip-between e s (every grain128 p (8 * length s) g) d (length-every grain128 p (8 * length s) g) h
 
 module _ (e : Edition) (st : State) where
   -- The bits of the bytes that come out.
@@ -44,8 +35,8 @@ module _ (e : Edition) (st : State) where
   -- They are the bytes that go in, with the keystream added.
   pub crypted-bytes : (sealing : Bool) (s : List ℕ) → bytesIn e (length s) (crypt sealing st (bitsIn e s)) ≡ withKeystream e 2 (st .generator) s
   crypted-bytes sealing s =
-      ap (bytesIn e (length s)) (crypt-sum sealing st (bitsIn e s) ∙ ap (λ (n : ℕ). bitsIn e s ⊞ every single 2 n (st .generator)) (length-bitsIn e s))
-      ∙ flipIn-bytes e s (every single 2 (8 * length s) (st .generator))
+      ap (bytesIn e (length s)) (crypt-sum sealing st (bitsIn e s) ∙ ap (λ (n : ℕ). bitsIn e s ⊞ every grain128 2 n (st .generator)) (length-bitsIn e s))
+      ∙ flipIn-bytes e s (every grain128 2 (8 * length s) (st .generator))
 
   pub cryptBytes-added : (sealing : Bool) (s : List ℕ) → cryptBytes e sealing st s ≡ withKeystream e 2 (st .generator) s
   unfolding cryptBytes
@@ -56,7 +47,7 @@ module _ (e : Edition) (st : State) where
   cryptBytes-twice first second s h =
       ap (cryptBytes e second st) (cryptBytes-added first s)
       ∙ cryptBytes-added second (withKeystream e 2 (st .generator) s)
-      ∙ withKeystream-twice e 2 (st .generator) s h
+      ∙ added-twice grain128 (flipping e) 2 (st .generator) s h
 
 -- A string that is enciphered, flipped and deciphered, from two states with one generator, is flipped.
 pub cryptBytes-between : (e : Edition) (st st′ : State) (first second : Bool) (s : List ℕ) (d : List Bool) → st .generator ≡ st′ .generator → Flips s d

@@ -7,12 +7,13 @@ use Prim.Native.Nat.{ℕ, _+_, _*_, _/_, _<_, _≤_}
 use native.Mathlib.Nat.{add-mul}
 use native.Mathlib.Omega.{arith}
 use lib.ListN.{length, getD, take, drop, take-append-drop, length-append}
-use lib.Seq.{drop-cons, take-add, length-take-le}
+use lib.Seq.{drop-cons, length-take-le}
 use Rattle.bits.specs.Bit.{_⊻_}
 use Rattle.bits.specs.Bytes.{word}
 use Rattle.bits.specs.Times.{times}
-use Rattle.preoutput.specs.Algebra.{single}
-use Rattle.preoutput.specs.Generator.{plain}
+use Rattle.generators.specs.Generator.{plain}
+use Rattle.generators.proofs.Keystream.{Pieces, more}
+use Rattle.preoutput.specs.Functions.{grain128}
 use Rattle.machine.specs.declared.edition.Edition.{Edition}
 use Rattle.machine.specs.declared.engine.Engine.{Engine}
 use Rattle.machine.specs.Engine.{stateOf, Crypts}
@@ -52,20 +53,12 @@ crypt-append sealing st (x ∷ s) t =
     (crypt-append sealing next s t ∙ ap (λ (a : State). crypt sealing next s ++ crypt sealing a t) (sym (through-cons sealing st x s)))
 
 -- Whatever the message, as many clocks.
-pub through-clocked : (sealing : Bool) (st : State) (s : List Bool) → through sealing st s .generator ≡ times (2 * length s) (plain single) (st .generator)
+pub through-clocked : (sealing : Bool) (st : State) (s : List Bool) → through sealing st s .generator ≡ times (2 * length s) (plain grain128) (st .generator)
 unfolding through
 through-clocked true st s = run-clocked st s
-through-clocked false st s = run-clocked st (crypt false st s) ∙ ap (λ (n : ℕ). times (2 * n) (plain single) (st .generator)) (length-crypt false st s)
+through-clocked false st s = run-clocked st (crypt false st s) ∙ ap (λ (n : ℕ). times (2 * n) (plain grain128) (st .generator)) (length-crypt false st s)
 
--- A string in two pieces, the second from place i on.
-pub record Pieces (s t whole : List ℕ) (i : ℕ) : Type 0 where
-  pub joined : s ++ t ≡ whole
-  pub place : length s ≡ i
-
--- The k bytes behind the first i, and word i behind the words before it.
-pub more : (s : List ℕ) (i k : ℕ) → i ≤ length s → Pieces (take i s) (take k (drop i s)) (take (i + k) s) i
-more s i k h = record { joined = sym (take-add i k s); place = length-take-le i s h }
-
+-- Word i behind the words before it.
 pub more-word : (s : List ℕ) (i : ℕ) → i * 4 ≤ length s → Pieces (take (i * 4) s) (take 4 (drop (i * 4) s)) (take ((i + 1) * 4) s) (i * 4)
 more-word s i h = rw (add-mul i 1 4) (more s (i * 4) 4 h)
 

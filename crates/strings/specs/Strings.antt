@@ -6,9 +6,10 @@ use Prim.Native.Nat.{ℕ, _*_}
 use lib.ListN.{length, take, drop}
 use Rattle.bits.specs.Bytes.{word}
 use Rattle.bits.specs.Times.{times}
+use Rattle.generators.specs.Generator.{Generator, plain}
+use Rattle.generators.specs.Keystream.{added}
 use Rattle.preoutput.specs.declared.Registers.{Registers}
-use Rattle.preoutput.specs.Algebra.{single}
-use Rattle.preoutput.specs.Generator.{Generator, plain, every}
+use Rattle.preoutput.specs.Functions.{grain128}
 use Rattle.preoutput.specs.Words.{generatorOf}
 use Rattle.machine.specs.declared.edition.Edition.{Edition}
 use Rattle.machine.specs.declared.engine.Engine.{Engine}
@@ -30,11 +31,11 @@ Continues edition writes sealing e r first whole before after =
 abbrev pub pasted : Edition → List ℕ → (i k w : ℕ) → List ℕ
 pasted edition out i k w = take i out ++ (bytesIn edition k (word (8 * k) w) ++ drop k (drop i out))
 
--- A byte string with a generator's keystream added, every p-th pre-output: flipped by it.
+-- A byte string with a generator's keystream added, every p-th pre-output.
 abbrev pub withKeystream : Edition → (p : ℕ) → Generator Bool → List ℕ → List ℕ
-withKeystream edition p g s = flipIn edition s (every single p (8 * length s) g)
+withKeystream edition p g s = added grain128 (flipIn edition) p g s
 
 -- A string with a generator's keystream added, at the front of the output, and the generator after its clocks.
 pub record Adds (edition : Edition) (p : ℕ) (g : Generator Bool) (s lent output : List ℕ) (r : Registers) : Type 0 where
   pub written : output ≡ withKeystream edition p g s ++ drop (length s) lent
-  pub generator : generatorOf r ≡ times (p * (8 * length s)) (plain single) g
+  pub generator : generatorOf r ≡ times (p * (8 * length s)) (plain grain128) g

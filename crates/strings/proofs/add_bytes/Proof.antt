@@ -8,12 +8,13 @@ use lib.Dec.{lit≤}
 use lib.ListN.{length, take, drop}
 use lib.Seq.{take-all}
 use Rattle.bits.specs.Bytes.{word}
+use Rattle.generators.proofs.Keystream.{more}
 use Rattle.preoutput.specs.Words.{generatorOf}
 use Rattle.strokes.specs.Streams.{spacing}
 use Rattle.machine.proofs.Bitwise.{bits-keystream}
 use Rattle.startup.specs.Editions.{bitsIn}
 use Rattle.strings.specs.Strings.{Adds}
-use Rattle.strings.proofs.OverBytes.{more, byte-piece}
+use Rattle.strings.proofs.OverBytes.{byte-piece}
 use Rattle.strings.proofs.Writing.{adds-pieces, adds-piece, adds-none}
 use Rattle.strings.proofs.add_bytes.Statement.{statement}
 use Rattle.strings.proofs.add_bytes.Tie as tie

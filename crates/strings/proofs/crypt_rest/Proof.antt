@@ -7,9 +7,10 @@ use borrow.Author.Needs.{needs}
 use lib.Dec.{lit≤}
 use lib.ListN.{length, take, drop}
 use lib.Seq.{take-all}
+use Rattle.generators.proofs.Keystream.{more}
 use Rattle.startup.specs.Editions.{bitsIn}
 use Rattle.strings.specs.Strings.{Continues}
-use Rattle.strings.proofs.OverBytes.{more, byte-piece}
+use Rattle.strings.proofs.OverBytes.{byte-piece}
 use Rattle.strings.proofs.Writing.{crypts-piece, crypts-pieces}
 use Rattle.strings.proofs.crypt_rest.Statement.{statement}
 use Rattle.strings.proofs.crypt_rest.Tie as tie
