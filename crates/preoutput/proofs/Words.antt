@@ -51,17 +51,17 @@ kept = functions-kept words single lowest lowest-xor lowest-and
 pub preoutput-words : (g : Registers) → digit (preoutput grain128 (generatorOf g)) ≡ y words (tap (g .lfsr0) (g .lfsr1)) (tap (g .nfsr0) (g .nfsr1)) % 2
 unfolding preoutput generatorOf
 preoutput-words g =
-    ap digit (sym (kept .output (tap (g .lfsr0) (g .lfsr1)) (tap (g .nfsr0) (g .nfsr1)) ∙ ap₂ (y single) (tap-places (g .lfsr0) (g .lfsr1)) (tap-places (g .nfsr0) (g .nfsr1))))
+    ap digit (sym (kept .output (tap (g .lfsr0) (g .lfsr1)) (tap (g .nfsr0) (g .nfsr1)) ∙ ap₂ (grain128 .output) (tap-places (g .lfsr0) (g .lfsr1)) (tap-places (g .nfsr0) (g .nfsr1))))
     ∙ digit-lowest (y words (tap (g .lfsr0) (g .lfsr1)) (tap (g .nfsr0) (g .nfsr1)))
 
 lfsrBit-words : (w0 w1 x : ℕ) → lowest (lfsrBit (functions words) (tap w0 w1) x) ≡ lfsrBit grain128 (places (word 64 w0 ++ word 64 w1)) (lowest x)
-lfsrBit-words w0 w1 x = lowest-xor (L words (tap w0 w1)) x ∙ ap (λ (b : Bool). b ⊻ lowest x) (kept .linear (tap w0 w1) ∙ ap (L single) (tap-places w0 w1))
+lfsrBit-words w0 w1 x = lowest-xor (L words (tap w0 w1)) x ∙ ap (λ (b : Bool). b ⊻ lowest x) (kept .linear (tap w0 w1) ∙ ap (grain128 .linear) (tap-places w0 w1))
 
 nfsrBit-words : (s0 s1 b0 b1 x : ℕ) → lowest (nfsrBit (functions words) (tap s0 s1) (tap b0 b1) x) ≡ nfsrBit grain128 (places (word 64 s0 ++ word 64 s1)) (places (word 64 b0 ++ word 64 b1)) (lowest x)
 nfsrBit-words s0 s1 b0 b1 x =
     lowest-xor (bitXor (tap s0 s1 0) (F words (tap b0 b1))) x
     ∙ ap (λ (b : Bool). b ⊻ lowest x)
-    (lowest-xor (tap s0 s1 0) (F words (tap b0 b1)) ∙ ap₂ _⊻_ (tap-place s0 s1 0) (kept .nonlinear (tap b0 b1) ∙ ap (F single) (tap-places b0 b1)))
+    (lowest-xor (tap s0 s1 0) (F words (tap b0 b1)) ∙ ap₂ _⊻_ (tap-place s0 s1 0) (kept .nonlinear (tap b0 b1) ∙ ap (grain128 .nonlinear) (tap-places b0 b1)))
 
 -- Two words after a clock: each moved, the first taking the top bit of the second, the second a new bit.
 pub record Moved (w0 w1 new : ℕ) (v0 v1 : ℕ) : Type 0 where
