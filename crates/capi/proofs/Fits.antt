@@ -18,7 +18,6 @@ use Rattle.payload.specs.Payload.{payload}
 use Rattle.payload.proofs.Payload.{length-payload}
 use Rattle.limits.specs.Limits.{messageLimit}
 use Rattle.grain128aead.specs.Demand2.{Sealing, Demand2}
-use Rattle.grain128a.specs.Payload.{withKeystream}
 use Rattle.grain128a.specs.Payload as tagged
 use Rattle.grain128a.specs.Demand2 as grain128a
 use Rattle.grain128a.proofs.Payload.{lengths}
@@ -54,7 +53,7 @@ pub read-fits : (e : Edition) (key nonce : List ℕ) (identifier code : ℕ) (fi
 read-fits e key nonce identifier code field out o d =
     outcome-fits o (λ a. let h = d .accepts .0 a in (h .0, out, d .returns (h .0) (h .1) (h .2), omega (arith, h .1 .legal .messageFits)))
 
--- With a tag of w bits, which is legal where a call accepts, and without one.
+-- With a tag of w bits, which is legal where a call accepts.
 pub tagged-seal-fits : (w : ℕ) (key nonce message out : List ℕ) (o : Outcome) → grain128a.Sealing w key nonce message out o → capped (o .answer) ≡ o .answer
 tagged-seal-fits w key nonce message out o s =
     outcome-fits o (λ a. let h = s .accepts .0 a in (tagged.payload w key nonce message, out, s .seals (h .0) (h .1), omega (arith, limit-small, h .0 .messageFits, h .0 .tagFits, lengths w key nonce message .payload)))
@@ -63,15 +62,14 @@ pub tagged-open-fits : (w : ℕ) (key nonce input out : List ℕ) (o : Outcome) 
 tagged-open-fits w key nonce input out o d =
     outcome-fits o (λ a. let h = d .accepts .0 a in (h .0, out, d .returns (h .0) (h .1) (h .2), omega (arith, limit-small, h .1 .legal .messageFits)))
 
-pub crypt-fits : (key nonce message out : List ℕ) (o : Outcome) → grain128a.Crypting key nonce message out o → capped (o .answer) ≡ o .answer
-crypt-fits key nonce message out o s =
-    outcome-fits o (λ a. let h = s .accepts .0 a in (withKeystream key nonce message, out, s .crypts (h .0) (h .1), omega (arith, limit-small, h .0 .messageFits, lengths 0 key nonce message .withKeystream)))
-
 -- Of any cipher that adds a keystream to messages up to the limit.
 pub added-fits : (legal : List ℕ → Type 0) (withKeystream : List ℕ → List ℕ) → ((s : List ℕ) → legal s → length s ≤ messageLimit) → ((s : List ℕ) → length (withKeystream s) ≡ length s)
     → (message out : List ℕ) (o : Outcome) → untagged.Crypting legal withKeystream message out o → capped (o .answer) ≡ o .answer
 added-fits legal withKeystream limited long message out o s =
     outcome-fits o (λ a. let h = s .accepts .0 a in (withKeystream message, out, s .crypts (h .0) (h .1), omega (arith, limit-small, limited message (h .0), long message)))
+
+pub crypt-fits : (key nonce message out : List ℕ) (o : Outcome) → grain128a.Crypting key nonce message out o → capped (o .answer) ≡ o .answer
+crypt-fits key nonce = added-fits (grain128a.LegalUnauthenticated key nonce) _ (λ s l. l .messageFits) (λ s. lengths 0 key nonce s .withKeystream)
 
 pub grainv1-fits : (key nonce message out : List ℕ) (o : Outcome) → grainv1.Crypting key nonce message out o → capped (o .answer) ≡ o .answer
 grainv1-fits key nonce = added-fits (grainv1.Legal key nonce) _ (λ s l. l .messageFits) (length-withKeystream key nonce)

@@ -17,6 +17,7 @@ use Rattle.mode_checks.specs.Order as order
 use Rattle.mode_checks.proofs.Rows.{tabled, unauthenticated-clear, clear-unauthenticated}
 use Rattle.tagged.proofs.Sealing as sealings
 use Rattle.tagged.proofs.Opening as openings
+use Rattle.untagged.proofs.Crypting as untagged
 use Rattle.grain128a.specs.Payload.{tagSize, cipher, payload, withKeystream}
 use Rattle.grain128a.specs.Calls.{sealingRows, sealed, recovered, openingRows, opened, cryptingRows, crypted}
 use Rattle.grain128a.specs.Demand2.{Legal, Sealing, Demand2, LegalUnauthenticated, Crypting}
@@ -104,10 +105,4 @@ module _ (key nonce message out : List ℕ) where
 
   pub crypting : Crypting key nonce message out (crypted key nonce message out)
   unfolding crypted judged
-  crypting =
-      let s = sealings.sealing (LegalUnauthenticated key nonce) (withKeystream key nonce) 0 message out _ (crypted key nonce message out) refl
-      (λ l room. crypting-passes l (omega (arith, room))) (λ e. let f = crypting-fits e in (f .0, omega (arith, f .1))) in
-      record {
-        accepts = (λ a. let f = s .accepts .0 a in (f .0, omega (arith, f .1)), λ h. s .accepts .1 (h .0, omega (arith, h .1)));
-        crypts = λ l room. s .seals l (omega (arith, room));
-      }
+  crypting = untagged.crypting (LegalUnauthenticated key nonce) (withKeystream key nonce) message out _ (crypted key nonce message out) refl crypting-passes crypting-fits

@@ -42,6 +42,7 @@ use Rattle.tagged.specs.Payload.{ciphertextPart, tagPart}
 use Rattle.tagged.proofs.Parts.{parts, tagPart-bytes, length-ciphertextPart}
 use Rattle.tagged.proofs.Opening.{Authentic}
 use Rattle.tagged.proofs.Entry as entry
+use Rattle.untagged.proofs.Crypting as untagged
 use Rattle.grain128a.specs.Bits.{bits, bytes}
 use Rattle.grain128a.specs.StartUp.{warmed, filled, initialised}
 use Rattle.grain128a.specs.Payload.{authenticated, ciphertext, deciphered, tagSize, pad, tagBits, tag, cipher, payload}
@@ -214,10 +215,8 @@ module _ {key nonce message lent : List ℕ} {c : Check} (checks : CryptChecked 
     pub crypt-passed : {g : Generator Bool} {out : List ℕ} → g ≡ warmed key nonce → out ≡ withKeystream First 1 g (take (length lent) message) ++ drop (length (take (length lent) message)) lent
         → outcome (Count (length message)) out ≡ crypted key nonce message lent
     crypt-passed {g} {out} warm written =
-        ap₂ outcome (ap Count (sym (length-added key nonce message)))
-        (whole
-        ∙ ap₂ (λ (s : List ℕ) (k : ℕ). s ++ drop k lent) (ap (λ (h : Generator Bool). withKeystream First 1 h message) warm ∙ added key nonce message) (sym (length-added key nonce message)))
-        ∙ settled-success c (grain128a.withKeystream key nonce message) lent settles-crypt e
+        untagged.crypted-output (grain128a.withKeystream key nonce) (length-added key nonce) message lent c (crypted key nonce message lent) settles-crypt e
+        (whole ∙ ap (λ (t : List ℕ). t ++ drop (length message) lent) (ap (λ (h : Generator Bool). withKeystream First 1 h message) warm ∙ added key nonce message))
       where
         whole : out ≡ withKeystream First 1 g message ++ drop (length message) lent
         whole = rw (take-all (length lent) message (crypt-legal .1)) at written

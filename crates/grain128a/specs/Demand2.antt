@@ -1,16 +1,14 @@
 -- Demand 2 for Grain-128a, over any tag length: a sealed payload is what the machine gives; opening accepts exactly what some message makes.
-use mathlib.Core.Logic.{_↔_}
-use mathlib.Core.Path.{_≡_}
 use mathlib.Core.Bool.{true, false}
 use mathlib.Core.List.{List}
 use Prim.Native.Nat.{ℕ, _≤_}
 use lib.ListN.{length}
-use Rattle.refusals.specs.Outcome.{Outcome, success}
-use Rattle.refusals.specs.Demand1.{Accepts}
+use Rattle.refusals.specs.Outcome.{Outcome}
 use Rattle.limits.specs.Limits.{messageLimit}
 use Rattle.mode_checks.specs.Modes.{tagLimit}
 use Rattle.mode_checks.specs.Common.{Common}
 use Rattle.tagged.specs.Demands as tagged
+use Rattle.untagged.specs.Crypting as untagged
 use Rattle.grain128a.specs.Payload.{tagSize, payload, withKeystream}
 
 -- What is legal with authentication.
@@ -39,6 +37,5 @@ pub record LegalUnauthenticated (key nonce message : List ℕ) : Type 0 where
   pub messageFits : length message ≤ messageLimit
 
 -- The call succeeds exactly with what is legal and room for the message, and then writes the message with the keystream added.
-pub record Crypting (key nonce message out : List ℕ) (o : Outcome) : Type 0 where
-  pub accepts : Accepts o ↔ (LegalUnauthenticated key nonce message × (length message ≤ length out))
-  pub crypts : LegalUnauthenticated key nonce message → length message ≤ length out → o ≡ success (withKeystream key nonce message) out
+abbrev pub Crypting : (key nonce message out : List ℕ) → Outcome → Type 0
+Crypting key nonce = untagged.Crypting (LegalUnauthenticated key nonce) (withKeystream key nonce)

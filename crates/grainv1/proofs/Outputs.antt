@@ -2,7 +2,7 @@
 -- Assumes nothing.
 use mathlib.Core.Path.{_≡_, refl, sym, ap, ap₂, _∙_}
 use mathlib.Core.Bool.{Bool, cond}
-use mathlib.Core.List.{List, [], _++_, foldl}
+use mathlib.Core.List.{List, [], _++_}
 use Prim.Native.Nat.{ℕ, _+_, _-_, _*_, _<_, _≤_}
 use native.Mathlib.Decide.{decLt}
 use native.Mathlib.Omega.{arith}
@@ -11,7 +11,6 @@ use lib.Dec.{lit<, lit≤, ltb}
 use lib.ListN.{length, take, drop, length-drop, length-append}
 use lib.Seq.{length-take-le}
 use Rattle.bits.specs.Bytes.{word, flip, bits, bytes}
-use Rattle.bits.specs.Strings.{shift}
 use Rattle.bits.specs.Times.{times}
 use Rattle.bits.proofs.Flip.{length-flip}
 use Rattle.bits.proofs.Shift.{shifted, shifted-in}
@@ -22,7 +21,7 @@ use Rattle.generators.specs.Keystream.{added}
 use Rattle.generators.specs.Running.{Running, clocks, given}
 use Rattle.generators.specs.Strokes.{listed, outputAt}
 use Rattle.generators.proofs.ClocksStroked.{clocks-every, listed-every}
-use Rattle.generators.proofs.Keystream.{Flipping, flipping, clocked, more, both-written}
+use Rattle.generators.proofs.Keystream.{flipping, clocked, more, both-written}
 use Rattle.generators.proofs.Runs.{clocks-less, clocks-none, ways}
 use Rattle.generators.proofs.Spaced.{length-every, take-every}
 use Rattle.generators.proofs.Spaced as spaced

@@ -2,11 +2,12 @@
 -- functions that document 01 writes out are these.
 use mathlib.Core.Path.{_≡_}
 use mathlib.Core.List.{List, [], _∷_, map, foldl}
-use Prim.Native.Nat.{ℕ, _-_}
+use Prim.Native.Nat.{ℕ}
 use Rattle.generators.specs.Algebra.{Algebra}
+use Rattle.generators.specs.Polynomial.{feedback}
 use Rattle.preoutput.specs.Functions.{L, F, h, y}
 
--- A polynomial is a list of its monomials but the 1, a monomial the list of its exponents, the highest power first.
+-- The highest power first.
 abbrev pub f : List (List ℕ)
 f = (128 ∷ []) ∷ (121 ∷ []) ∷ (90 ∷ []) ∷ (58 ∷ []) ∷ (47 ∷ []) ∷ (32 ∷ []) ∷ []
 
@@ -22,26 +23,15 @@ abbrev pub outputTaps : List ℕ
 outputTaps = 2 ∷ 15 ∷ 36 ∷ 45 ∷ 64 ∷ 73 ∷ 89 ∷ []
 
 module _ {A : Type 0} (over : Algebra A) where
-  open Algebra over using (zero as 𝟘, sum as _⊻_, product as _·_)
+  open Algebra over using (sum as _⊻_, product as _·_)
 
   infixl 60 _⊻_
   infixl 70 _·_
   abbrev pub nine : (x₀ x₁ x₂ x₃ x₄ x₅ x₆ x₇ x₈ : A) → A
   nine x₀ x₁ x₂ x₃ x₄ x₅ x₆ x₇ x₈ = x₀ · x₁ ⊻ x₂ · x₃ ⊻ x₄ · x₅ ⊻ x₆ · x₇ ⊻ x₀ · x₄ · x₈
 
-  abbrev pub joined : (A → A → A) → List A → A
-  joined op [] = 𝟘
-  joined op (x ∷ xs) = foldl op x xs
-
-  -- x to the e stands for place 128 - e.
-  abbrev pub monomial : (ℕ → A) → List ℕ → A
-  monomial r m = joined _·_ (map (λ e. r (128 - e)) m)
-
-  abbrev pub feedback : List (List ℕ) → (ℕ → A) → A
-  feedback p r = joined _⊻_ (map (monomial r) p)
-
   pub record Published (s b : ℕ → A) : Type 0 where
-    pub lfsr : L over s ≡ feedback f s
-    pub nfsr : F over b ≡ feedback g b
+    pub lfsr : L over s ≡ feedback over 128 f s
+    pub nfsr : F over b ≡ feedback over 128 g b
     pub filter : h over s b ≡ nine (b 12) (s 8) (s 13) (s 20) (b 95) (s 42) (s 60) (s 79) (s 94)
     pub output : y over s b ≡ foldl _⊻_ (h over s b ⊻ s 93) (map b outputTaps)

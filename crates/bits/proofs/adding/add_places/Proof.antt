@@ -1,6 +1,6 @@
 -- `bits::adding::add_places` meets its contract.
 -- Assumes nothing.
-use mathlib.Core.Path.{_≡_, ap, _∙_}
+use mathlib.Core.Path.{ap, _∙_}
 use Prim.Native.Nat.{ℕ, _-_, _*_, _/_, _^_}
 use lib.Bits.{bitXor}
 use lib.ListN.{length}

@@ -1,6 +1,6 @@
 -- `grainv1::keystream::word` meets its contract.
 -- Assumes nothing.
-use mathlib.Core.Path.{refl, sym}
+use mathlib.Core.Path.{refl}
 use native.Mathlib.Omega.{arith}
 use borrow.Author.Needs.{needs}
 use Rattle.grainv1.specs.Words.{runningOf}
