@@ -15,7 +15,7 @@ use Rattle.generators.specs.Generator.{Generator}
 use Rattle.generators.specs.Strokes.{listed, outputAt, lfsrBitAt, nfsrBitAt}
 use Rattle.generators.proofs.Below.{linear-agrees, nonlinear-agrees, output-agrees}
 use Rattle.generators.proofs.Listed.{listed-agrees, word-listed}
-use Rattle.generators.proofs.Windows.{Windows}
+use Rattle.generators.specs.Windows.{Windows}
 
 -- The functions over words and over single bits, all of whose taps are below place n.
 module _ {onWords : Functions words} {by : Functions single} (kept : (j : ℕ) → Kept onWords by (bit j)) {n : ℕ} (taps : Taps n by) (m : ℕ) (g : Generator Bool) where

@@ -8,12 +8,11 @@ use native.Mathlib.Nat.{mul-add}
 use lib.ListN.{length, take, drop, length-append}
 use lib.Seq.{take-at, drop-at, drop-drop, take-add, length-take-le}
 use Rattle.bits.specs.Bytes.{Bytes, flip}
-use Rattle.bits.specs.Times.{times}
 use Rattle.bits.proofs.Flip.{Flips, length-flip, flip-twice, flip-append}
 use Rattle.generators.specs.Algebra.{single}
 use Rattle.generators.specs.Functions.{Functions}
-use Rattle.generators.specs.Generator.{Generator, plain, every}
-use Rattle.generators.specs.Keystream.{added}
+use Rattle.generators.specs.Generator.{Generator, every}
+use Rattle.generators.specs.Keystream.{added, clocked}
 use Rattle.generators.proofs.Spaced.{length-every, every-append}
 
 -- The flips of an order of bits: they keep the length, join as strings join, and undo themselves.
@@ -36,10 +35,6 @@ pub more : (s : List ℕ) (i k : ℕ) → i ≤ length s → Pieces (take i s) (
 more s i k h = record { joined = sym (take-add i k s); place = length-take-le i s h }
 
 module _ (by : Functions single) {flip : List ℕ → List Bool → List ℕ} (laws : Flipping flip) (p : ℕ) where
-  -- The generator after the clocks of n bytes.
-  abbrev pub clocked : ℕ → Generator Bool → Generator Bool
-  clocked n g = times (p * (8 * n)) (plain by) g
-
   module _ (g : Generator Bool) where
     pub length-added : (s : List ℕ) → length (added by flip p g s) ≡ length s
     length-added s = laws .length s (every by p (8 * length s) g)
@@ -51,20 +46,20 @@ module _ (by : Functions single) {flip : List ℕ → List Bool → List ℕ} (l
         ∙ laws .twice s (every by p (8 * length s) g) h (length-every by p (8 * length s) g)
 
     -- Each piece takes the keystream behind that of the piece before.
-    pub added-append : (s t : List ℕ) → added by flip p g (s ++ t) ≡ added by flip p g s ++ added by flip p (clocked (length s) g) t
+    pub added-append : (s t : List ℕ) → added by flip p g (s ++ t) ≡ added by flip p g s ++ added by flip p (clocked by p (length s) g) t
     added-append s t =
         ap (flip (s ++ t)) (ap (λ (n : ℕ). every by p n g) (ap (λ (n : ℕ). 8 * n) (length-append s t) ∙ mul-add 8 (length s) (length t))
         ∙ every-append by p (8 * length s) (8 * length t) g)
-        ∙ laws .append s t (every by p (8 * length s) g) (every by p (8 * length t) (clocked (length s) g)) (length-every by p (8 * length s) g)
+        ∙ laws .append s t (every by p (8 * length s) g) (every by p (8 * length t) (clocked by p (length s) g)) (length-every by p (8 * length s) g)
 
     -- The first piece written, and the second behind it.
     pub both-written : {s t whole : List ℕ} {i : ℕ} → Pieces s t whole i → (lent : List ℕ) {mid output out : List ℕ} → mid ≡ added by flip p g s ++ drop (length s) lent
-        → output ≡ added by flip p (clocked (length s) g) t ++ drop (length t) (drop i mid) → out ≡ take i mid ++ output
+        → output ≡ added by flip p (clocked by p (length s) g) t ++ drop (length t) (drop i mid) → out ≡ take i mid ++ output
         → out ≡ added by flip p g whole ++ drop (length whole) lent
     both-written {s} {t} {whole} {i} pieces lent first second both =
         both ∙ ap₂ _++_ (ap (take i) first ∙ take-at (added by flip p g s) (drop (length s) lent) i long)
-        (second ∙ ap (λ (l : List ℕ). added by flip p (clocked (length s) g) t ++ drop (length t) l) (ap (drop i) first ∙ drop-at (added by flip p g s) (drop (length s) lent) i long))
-        ∙ sym (append-assoc (added by flip p g s) (added by flip p (clocked (length s) g) t) (drop (length t) (drop (length s) lent)))
+        (second ∙ ap (λ (l : List ℕ). added by flip p (clocked by p (length s) g) t ++ drop (length t) l) (ap (drop i) first ∙ drop-at (added by flip p g s) (drop (length s) lent) i long))
+        ∙ sym (append-assoc (added by flip p g s) (added by flip p (clocked by p (length s) g) t) (drop (length t) (drop (length s) lent)))
         ∙ ap₂ _++_ (sym (added-append s t)) (drop-drop (length t) (length s) lent ∙ ap (λ (n : ℕ). drop n lent) (sym (length-append s t)))
         ∙ ap (λ (l : List ℕ). added by flip p g l ++ drop (length l) lent) (pieces .joined)
       where

@@ -1,4 +1,4 @@
--- A register's windows: some of its places, the last of them in the lowest bit of a word.
+-- Windows of a register, from its words.
 -- Assumes nothing.
 use mathlib.Core.Path.{_≡_, sym, ap, _∙_}
 use mathlib.Core.Bool.{Bool, false}
@@ -12,11 +12,7 @@ use Rattle.bits.specs.Bytes.{lowest, bit, word}
 use Rattle.bits.specs.Strings.{places}
 use Rattle.bits.proofs.Word.{getD-word}
 
--- The word w k has the m places from k on, for every k below n.
-pub record Windows (m n : ℕ) (r : List Bool) (w : ℕ → ℕ) : Type 0 where
-  pub shows : (k i : ℕ) → k < n → i < m → bit (m - suc i) (w k) ≡ places r (k + i)
-
--- Such a window from a word that has 64 places, those from a on.
+-- A window from a word that has 64 places, those from a on.
 pub window-place : (r : List Bool) (w a k m i : ℕ) → word 64 w ≡ take 64 (drop a r) → a ≤ k → k + m ≤ a + 64 → i < m → bit (m - suc i) (w / 2 ^ (a + 64 - m - k)) ≡ places r (k + i)
 window-place r w a k m i e low high h =
     ap lowest (shr-shr w (a + 64 - m - k) (m - suc i)) ∙ ap (λ (n : ℕ). bit n w) (omega arith) ∙ sym (getD-word 64 w (k - a + i) (omega arith))

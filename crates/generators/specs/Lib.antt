@@ -4,4 +4,5 @@ pub mod Polynomial
 pub mod Generator
 pub mod Running
 pub mod Strokes
+pub mod Windows
 pub mod Keystream

@@ -17,11 +17,11 @@ use Rattle.bits.proofs.Shift.{shifted, shifted-in}
 use Rattle.bits.proofs.Times.{times-add}
 use Rattle.bits.proofs.Word.{length-word}
 use Rattle.generators.specs.Generator.{Generator, plain, every}
-use Rattle.generators.specs.Keystream.{added}
+use Rattle.generators.specs.Keystream.{added, clocked}
 use Rattle.generators.specs.Running.{Running, clocks, given}
 use Rattle.generators.specs.Strokes.{listed, outputAt}
 use Rattle.generators.proofs.ClocksStroked.{clocks-every, listed-every}
-use Rattle.generators.proofs.Keystream.{flipping, clocked, more, both-written}
+use Rattle.generators.proofs.Keystream.{flipping, more, both-written}
 use Rattle.generators.proofs.Runs.{clocks-less, clocks-none, ways}
 use Rattle.generators.proofs.Spaced.{length-every, take-every}
 use Rattle.generators.proofs.Spaced as spaced
@@ -78,7 +78,7 @@ pub record Adds (g : Registers) (s lent out : List ℕ) (now : Registers) (at : 
   pub inside : at ≤ length s
   pub kept : length out ≡ length lent
   pub written : out ≡ added grainv1 flip 1 (generatorOf g) (take at s) ++ drop (length (take at s)) lent
-  pub generator : at < length s → generatorOf now ≡ clocked grainv1 flipping 1 at (generatorOf g)
+  pub generator : at < length s → generatorOf now ≡ clocked grainv1 1 at (generatorOf g)
 
 pub adds-none : (g : Registers) (s lent : List ℕ) → Adds g s lent lent g 0
 unfolding bits bytes flip every
@@ -109,8 +109,8 @@ module _ {g now : Registers} {s lent out : List ℕ} {at : ℕ} (adds : Adds g s
   unfolding piece
   as-long = length-take-le n (drop at s) (omega (arith, length-drop at s, sized .inside))
 
-  from : generatorOf now ≡ clocked grainv1 flipping 1 (length (take at s)) (generatorOf g)
-  from = adds .generator more-left ∙ ap (λ (m : ℕ). clocked grainv1 flipping 1 m (generatorOf g)) (sym (length-take-le at s (adds .inside)))
+  from : generatorOf now ≡ clocked grainv1 1 (length (take at s)) (generatorOf g)
+  from = adds .generator more-left ∙ ap (λ (m : ℕ). clocked grainv1 1 m (generatorOf g)) (sym (length-take-le at s (adds .inside)))
 
   -- The bytes that it reads and those that it writes.
   pub turn-sized : length s ≤ length lent → (0 < length (take n (drop at s))) × (length (take n (drop at s)) ≤ 8) × (length (take n (drop at out)) ≡ length (take n (drop at s)))
@@ -150,7 +150,7 @@ module _ {g now : Registers} {s lent out : List ℕ} {at : ℕ} (adds : Adds g s
         ∙ ap (λ (m : ℕ). times m (plain grainv1) (generatorOf g)) eight;
   }
     where
-      keystream : take (8 * length piece) (word 64 (k .outputs)) ≡ every grainv1 1 (8 * length piece) (clocked grainv1 flipping 1 (length (take at s)) (generatorOf g))
+      keystream : take (8 * length piece) (word 64 (k .outputs)) ≡ every grainv1 1 (8 * length piece) (clocked grainv1 1 (length (take at s)) (generatorOf g))
       keystream =
           ap (take (8 * length piece)) (ks .outputs) ∙ take-every grainv1 1 (8 * length piece) 64 (generatorOf now) (omega (arith, as-long, sized .most))
           ∙ ap (every grainv1 1 (8 * length piece)) from

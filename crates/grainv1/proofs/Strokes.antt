@@ -20,7 +20,7 @@ use Rattle.generators.specs.Strokes.{listed, outputAt, stroked}
 use Rattle.generators.proofs.ClocksStroked.{plain-stroked, fed-back-stroked}
 use Rattle.generators.proofs.FunctionBits.{outputs-listed, lfsrBits-listed, nfsrBits-listed}
 use Rattle.generators.proofs.Listed.{places-listed}
-use Rattle.generators.proofs.Windows.{Windows}
+use Rattle.generators.specs.Windows.{Windows}
 use Rattle.grainv1.specs.declared.registers.Registers.{Registers}
 use Rattle.grainv1.specs.Functions.{functions, grainv1, z, L, F}
 use Rattle.grainv1.specs.Words.{register, generatorOf, window}

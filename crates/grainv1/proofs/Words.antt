@@ -18,7 +18,8 @@ use Rattle.bits.proofs.Moved.{word-or}
 use Rattle.bits.proofs.Shift.{shifted}
 use Rattle.bits.proofs.Word.{length-word, word-agrees, word-append, word-drop}
 use Rattle.generators.specs.Generator.{Sized}
-use Rattle.generators.proofs.Windows.{Windows, window-place}
+use Rattle.generators.specs.Windows.{Windows}
+use Rattle.generators.proofs.Windows.{window-place}
 use Rattle.grainv1.specs.declared.registers.Registers.{Registers}
 use Rattle.grainv1.specs.Words.{register, generatorOf, window}
 

@@ -16,7 +16,8 @@ use Rattle.bits.proofs.Lowest.{word-xor}
 use Rattle.bits.proofs.Times.{times-add}
 use Rattle.generators.specs.Generator.{Generator, plain, every}
 use Rattle.generators.proofs.Spaced.{clocks-none}
-use Rattle.generators.proofs.Keystream.{Pieces, clocked, both-written}
+use Rattle.generators.specs.Keystream.{clocked}
+use Rattle.generators.proofs.Keystream.{Pieces, both-written}
 use Rattle.preoutput.specs.declared.Registers.{Registers}
 use Rattle.preoutput.specs.Functions.{grain128}
 use Rattle.preoutput.specs.Words.{generatorOf}
@@ -37,7 +38,7 @@ module _ (e : Edition) {s t whole : List ℕ} {i : ℕ} (pieces : Pieces s t who
   adds-pieces {p} {g} {lent} {mid} first second both = record {
     written = both-written grain128 (flipping e) p g pieces lent (first .written) (second .written ∙ ap (λ (h : Generator Bool). withKeystream e p h t ++ drop (length t) (drop i mid)) (first .generator)) both;
     generator =
-        second .generator ∙ ap (clocked grain128 (flipping e) p (length t)) (first .generator) ∙ times-add (plain grain128) (p * (8 * length s)) (p * (8 * length t)) g
+        second .generator ∙ ap (clocked grain128 p (length t)) (first .generator) ∙ times-add (plain grain128) (p * (8 * length s)) (p * (8 * length t)) g
         ∙ ap (λ (n : ℕ). times n (plain grain128) g)
         (sym (mul-add p (8 * length s) (8 * length t)) ∙ ap (λ (n : ℕ). p * n) (sym (mul-add 8 (length s) (length t)) ∙ ap (λ (n : ℕ). 8 * n) (sym (length-append s t) ∙ ap length (pieces .joined))));
   }
@@ -50,7 +51,7 @@ module _ (e : Edition) {s t whole : List ℕ} {i : ℕ} (pieces : Pieces s t who
     engine = over-pieces e (through sealing) (through-append sealing) st pieces (first .engine) (second .engine);
   }
     where
-      moved : stateOf a .generator ≡ clocked grain128 (flipping e) 2 (length s) (st .generator)
+      moved : stateOf a .generator ≡ clocked grain128 2 (length s) (st .generator)
       moved =
           ap (λ (after : State). after .generator) (first .engine) ∙ through-clocked sealing st (bitsIn e s)
           ∙ ap (λ (n : ℕ). times (2 * n) (plain grain128) (st .generator)) (length-bitsIn e s)
@@ -68,14 +69,14 @@ module _ (e : Edition) (s : List ℕ) (i k x : ℕ) (inside : i + k ≤ length s
   long : k ≡ length (take k (drop i s))
   long = sym (length-take-le k (drop i s) (omega (arith, length-drop i s)))
 
-  pub adds-piece : {p : ℕ} {g : Generator Bool} (y : ℕ) {r : Registers} → word (8 * k) y ≡ every grain128 p (8 * k) g → generatorOf r ≡ clocked grain128 (flipping e) p k g
+  pub adds-piece : {p : ℕ} {g : Generator Bool} (y : ℕ) {r : Registers} → word (8 * k) y ≡ every grain128 p (8 * k) g → generatorOf r ≡ clocked grain128 p k g
       → Adds e p g (take k (drop i s)) lent (bytesIn e k (word (8 * k) (bitXor x y)) ++ drop k lent) r
   adds-piece {p} {g} y keystream clocks = record {
     written =
         ap (λ (l : List Bool). bytesIn e k l ++ drop k lent) (word-xor (8 * k) x y ∙ ap₂ _⊞_ spelled keystream)
         ∙ ap (λ (n : ℕ). bytesIn e n (bitsIn e (take k (drop i s)) ⊞ every grain128 p (8 * n) g) ++ drop n lent) long
         ∙ ap (λ (l : List ℕ). l ++ drop (length (take k (drop i s))) lent) (flipIn-bytes e (take k (drop i s)) (every grain128 p (8 * length (take k (drop i s))) g));
-    generator = clocks ∙ ap (λ (n : ℕ). clocked grain128 (flipping e) p n g) long;
+    generator = clocks ∙ ap (λ (n : ℕ). clocked grain128 p n g) long;
   }
 
   pub crypts-piece : {sealing : Bool} {st : State} {y : ℕ} {r : Engine} → Crypts (8 * k) sealing st x y r

@@ -18,7 +18,8 @@ use Rattle.generators.specs.Algebra.{single, words}
 use Rattle.generators.specs.Functions.{Kept}
 use Rattle.generators.specs.Generator.{lfsrBit}
 use Rattle.generators.specs.Strokes.{listed, outputAt, lfsrBitAt, nfsrBitAt}
-use Rattle.generators.proofs.Windows.{Windows, window-place}
+use Rattle.generators.specs.Windows.{Windows}
+use Rattle.generators.proofs.Windows.{window-place}
 use Rattle.generators.proofs.FunctionBits as bitwise
 use Rattle.preoutput.specs.declared.Registers.{Registers}
 use Rattle.preoutput.specs.Functions.{F, y, functions, grain128}
