@@ -7,3 +7,4 @@ pub mod ClocksStroked
 pub mod Windows
 pub mod FunctionBits
 pub mod Keystream
+pub mod Turns

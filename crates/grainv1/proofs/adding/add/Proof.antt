@@ -7,18 +7,20 @@ use native.Mathlib.Omega.{arith}
 use borrow.Author.Needs.{needs}
 use lib.ListN.{length}
 use lib.Seq.{take-all}
-use Rattle.grainv1.proofs.Outputs.{Adds, adds-none, piece-sized, turn-sized, adds-turn}
+use Rattle.generators.proofs.Turns.{Adds, adds-none, piece-sized, turn-sized, adds-turn}
+use Rattle.grainv1.specs.Functions.{grainv1}
+use Rattle.grainv1.specs.Words.{generatorOf}
 use Rattle.grainv1.proofs.adding.add.Statement.{statement}
 use Rattle.grainv1.proofs.adding.add.Tie as tie
 
 abbrev Inv-loop : tie.InvT-loop
-Inv-loop s out₀ now₀ at₀ out now at = Adds now₀ s out₀ out now at
+Inv-loop s out₀ now₀ at₀ out now at = Adds grainv1 (generatorOf now₀) s out₀ out (generatorOf now) at
 
 abbrev μ-loop : tie.MeasureT-loop
 μ-loop s out₀ now₀ at₀ out now at = length s - at
 
 loop-holds : tie.Need-loop-holds Inv-loop μ-loop
-loop-holds c = adds-none _ _ _
+loop-holds c = adds-none grainv1 _ _ _
 
 sub-piece : tie.Need-sub-piece Inv-loop μ-loop
 sub-piece c = omega arith
@@ -73,7 +75,7 @@ add-places-requires c κs =
     let l = p .before .before .loop in
     let start = p .before .before .before .before .before in
     let sized = piece-sized (length (start .args .s .now) - l .at) (omega arith) (p .piece .ensures) in
-    rw (add-sub-cancel-left (l .at) (p .piece .result)) (turn-sized (l .inv) (omega arith) (p .piece .result) sized (k .word .result) (k .word .ensures) (start .pre))
+    rw (add-sub-cancel-left (l .at) (p .piece .result)) (turn-sized (l .inv) (omega arith) (p .piece .result) sized (start .pre))
 
 loop-less : tie.Need-loop-less Inv-loop μ-loop
 loop-less c =
@@ -91,7 +93,7 @@ loop-again c =
     let start = p .before .before .before .before .before in
     let sized = piece-sized (length (start .args .s .now) - l .at) (omega arith) (p .piece .ensures) in
     rw (add-sub-cancel-left (l .at) (p .piece .result))
-    (adds-turn (l .inv) (omega arith) (p .piece .result) sized (k .word .result) (k .word .ensures) (start .pre) (rw (add-sub-cancel-left (l .at) (p .piece .result)) at (a .add-places .ensures)) refl)
+    (adds-turn (l .inv) (omega arith) (p .piece .result) sized (k .word .result .outputs) (k .word .ensures .outputs) (k .word .ensures .generator) (start .pre) (rw (add-sub-cancel-left (l .at) (p .piece .result)) at (a .add-places .ensures)) refl)
 
 same-length : tie.Need-same-length Inv-loop μ-loop
 same-length c = c .before .loop .inv .kept
