@@ -5,7 +5,7 @@ use mathlib.Core.List.{List, [], _∷_, map, foldl}
 use Prim.Native.Nat.{ℕ}
 use Rattle.generators.specs.Algebra.{Algebra}
 use Rattle.generators.specs.Polynomial.{joined, feedback}
-use Rattle.grainv1.specs.Functions.{L, F, h, z}
+use Rattle.grainv1.specs.Functions.{h, functions}
 
 abbrev pub f : List (List ℕ)
 f = (18 ∷ []) ∷ (29 ∷ []) ∷ (42 ∷ []) ∷ (57 ∷ []) ∷ (67 ∷ []) ∷ (80 ∷ []) ∷ []
@@ -31,7 +31,7 @@ outputTaps = 1 ∷ 2 ∷ 4 ∷ 10 ∷ 31 ∷ 43 ∷ 56 ∷ []
 
 module _ {A : Type 0} (over : Algebra A) where
   pub record Published (s b x : ℕ → A) : Type 0 where
-    pub lfsr : L over s ≡ feedback over 80 f s
-    pub nfsr : F over b ≡ feedback over 80 g b
+    pub lfsr : functions over .linear s ≡ feedback over 80 f s
+    pub nfsr : functions over .nonlinear b ≡ feedback over 80 g b
     pub filter : h over (x 0) (x 1) (x 2) (x 3) (x 4) ≡ joined over (over .sum) (map (λ m. joined over (over .product) (map x m)) hTerms)
-    pub output : z over s b ≡ foldl (over .sum) (h over (s 3) (s 25) (s 46) (s 64) (b 63)) (map b outputTaps)
+    pub output : functions over .output s b ≡ foldl (over .sum) (h over (s 3) (s 25) (s 46) (s 64) (b 63)) (map b outputTaps)

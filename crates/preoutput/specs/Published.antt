@@ -5,7 +5,7 @@ use mathlib.Core.List.{List, [], _∷_, map, foldl}
 use Prim.Native.Nat.{ℕ}
 use Rattle.generators.specs.Algebra.{Algebra}
 use Rattle.generators.specs.Polynomial.{feedback}
-use Rattle.preoutput.specs.Functions.{L, F, h, y}
+use Rattle.preoutput.specs.Functions.{h, functions}
 
 -- The highest power first.
 abbrev pub f : List (List ℕ)
@@ -31,7 +31,7 @@ module _ {A : Type 0} (over : Algebra A) where
   nine x₀ x₁ x₂ x₃ x₄ x₅ x₆ x₇ x₈ = x₀ · x₁ ⊻ x₂ · x₃ ⊻ x₄ · x₅ ⊻ x₆ · x₇ ⊻ x₀ · x₄ · x₈
 
   pub record Published (s b : ℕ → A) : Type 0 where
-    pub lfsr : L over s ≡ feedback over 128 f s
-    pub nfsr : F over b ≡ feedback over 128 g b
+    pub lfsr : functions over .linear s ≡ feedback over 128 f s
+    pub nfsr : functions over .nonlinear b ≡ feedback over 128 g b
     pub filter : h over s b ≡ nine (b 12) (s 8) (s 13) (s 20) (b 95) (s 42) (s 60) (s 79) (s 94)
-    pub output : y over s b ≡ foldl _⊻_ (h over s b ⊻ s 93) (map b outputTaps)
+    pub output : functions over .output s b ≡ foldl _⊻_ (h over s b ⊻ s 93) (map b outputTaps)
