@@ -1,5 +1,4 @@
 // Bits, bytes and words: the layer below the registers. A register's word has its first place in its top bit.
-pub mod adding;
 mod exchanging;
 pub mod parting;
 pub mod turning;

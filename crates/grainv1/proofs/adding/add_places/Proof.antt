@@ -1,14 +1,14 @@
--- `bits::adding::add_places` meets its contract.
+-- `grainv1::adding::add_places` meets its contract.
 -- Assumes nothing.
 use mathlib.Core.Path.{ap, _∙_}
 use Prim.Native.Nat.{ℕ, _-_, _*_, _/_, _^_}
 use lib.Bits.{bitXor}
 use lib.ListN.{length}
 use Rattle.bits.specs.Bytes.{word, bytes}
 use Rattle.bits.proofs.Added.{places-added}
 use borrow.Author.Needs.{needs}
-use Rattle.bits.proofs.adding.add_places.Statement.{statement}
-use Rattle.bits.proofs.adding.add_places.Tie as tie
+use Rattle.grainv1.proofs.adding.add_places.Statement.{statement}
+use Rattle.grainv1.proofs.adding.add_places.Tie as tie
 
 mul-above : tie.Need-mul-above
 mul-above c = search needs
