@@ -1,4 +1,4 @@
--- The functions of Grain v1 (the eSTREAM specification, section 2). s gives the content of each place of the LFSR, b that of the NFSR.
+-- The functions of Grain v1, of the eSTREAM specification. s gives the content of each place of the LFSR, b that of the NFSR.
 use Prim.Native.Nat.{ℕ}
 use Rattle.generators.specs.Algebra.{Algebra, single}
 use Rattle.generators.specs.Functions.{Functions}

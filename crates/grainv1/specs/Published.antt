@@ -1,4 +1,4 @@
--- Section 2 of the eSTREAM specification as it is printed there: two feedback polynomials, h of five variables, and the set A. The functions are
+-- The eSTREAM specification's printed form: two feedback polynomials, h of five variables, and the set A. The functions are
 -- these, place 80 - e for x to the e.
 use mathlib.Core.Path.{_≡_}
 use mathlib.Core.List.{List, [], _∷_, map, foldl}
@@ -19,7 +19,7 @@ g =
     ∷ (17 ∷ 20 ∷ 28 ∷ 35 ∷ 43 ∷ []) ∷ (47 ∷ 52 ∷ 59 ∷ 65 ∷ 71 ∷ [])
     ∷ (28 ∷ 35 ∷ 43 ∷ 47 ∷ 52 ∷ 59 ∷ []) ∷ []
 
--- The monomials of h, each the list of its variables, and where these are tapped.
+-- The monomials of h, each the list of its variables.
 abbrev pub hTerms : List (List ℕ)
 hTerms =
     (1 ∷ []) ∷ (4 ∷ []) ∷ (0 ∷ 3 ∷ []) ∷ (2 ∷ 3 ∷ []) ∷ (3 ∷ 4 ∷ [])

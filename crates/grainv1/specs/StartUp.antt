@@ -1,4 +1,4 @@
--- Start-up of Grain v1 and its keystream (the eSTREAM specification, section 2.1; document 01, "Bits, bytes and sizes", for the order of bits).
+-- Start-up of Grain v1 and its keystream (of the eSTREAM specification; document 01, "Bits, bytes and sizes", for the order of bits).
 use mathlib.Core.Bool.{Bool, true}
 use mathlib.Core.List.{List, _++_}
 use Prim.Native.Nat.{ℕ}
