@@ -1,4 +1,4 @@
--- The keystream on words, and a message with it added piece by piece.
+-- The outputs of plain clocks on words, sixteen at a stroke and 64 in a word of keystream.
 -- Assumes nothing.
 use mathlib.Core.Path.{_≡_, refl, sym, ap, _∙_}
 use mathlib.Core.Bool.{Bool}
