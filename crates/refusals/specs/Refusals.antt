@@ -1,10 +1,10 @@
--- Refusals: their numbers, rows, and the first row that applies (document 01, "When the box says no"; numbers 8 to 15, 19, 20 and 23, document 02, C-11, C-13, C-16, C-18 and C-20).
+-- Refusals: their numbers, rows, and the first row that applies (document 01, "When the box says no"; numbers 8 to 20 and 23, document 02, C-11, C-13, C-16, C-18, C-19 and C-20).
 use mathlib.Core.Bool.{Bool, false, cond}
 use mathlib.Core.List.{List, [], _∷_}
 use Prim.Native.Nat.{ℕ}
 use lib.Dec.{eqb}
 use Rattle.refusals.specs.declared.Refusal.{Refusal}
-use Rattle.refusals.specs.declared.Refusal.the-variants.{KeySize, NonceSize, AdTooLong, MessageTooLong, SealedTooShort, OutputTooShort, TagDiffers, IdentifierTooLarge, FrameMessageTooLong, NotCodedLength, WrongMessageLength, FillerNotZero, OutOfTurn, UnsoundState, BlankKey, NonceMode, TagLength, UnknownEdition}
+use Rattle.refusals.specs.declared.Refusal.the-variants.{KeySize, NonceSize, AdTooLong, MessageTooLong, SealedTooShort, OutputTooShort, TagDiffers, IdentifierTooLarge, FrameMessageTooLong, NotCodedLength, WrongMessageLength, FillerNotZero, OutOfTurn, UnsoundState, BlankKey, BrokenCapture, PastLastFrame, TooDeep, NonceMode, TagLength, UnknownEdition}
 use Rattle.refusals.specs.declared.Check.{Check}
 use Rattle.refusals.specs.declared.Check.the-variants.{Passed, Failed}
 
@@ -24,6 +24,9 @@ number FillerNotZero = 12
 number OutOfTurn = 13
 number UnsoundState = 14
 number BlankKey = 15
+number BrokenCapture = 16
+number PastLastFrame = 17
+number TooDeep = 18
 number NonceMode = 19
 number TagLength = 20
 number UnknownEdition = 23
