@@ -1,0 +1,9 @@
+pub mod Layout
+pub mod Content
+pub mod Walk
+pub mod Tallies
+pub mod Calls
+pub mod ReadBack
+pub mod Listing
+pub mod Stepping
+pub mod Examples
