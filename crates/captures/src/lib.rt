@@ -3,6 +3,7 @@ pub mod body;
 mod entries;
 mod numbers;
 pub mod parts;
+pub mod reader;
 mod walk;
 
 ghost use mathlib.Core.Path.{_≡_};
