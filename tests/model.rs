@@ -1,8 +1,15 @@
 //! An independent implementation of documents 01 and 02, of both editions, of Grain-128a and of
-//! Grain v1: a byte for each register bit, and every bit moved at every clock.
+//! Grain v1: a byte for each register bit, and every bit moved at every clock. Of captures, a reader
+//! and a writer.
 
+#[path = "model/capture_writer.rs"]
+pub mod capture_writer;
+#[path = "model/captures.rs"]
+pub mod captures;
 #[path = "model/frames.rs"]
 pub mod frames;
+#[path = "model/full_capture.rs"]
+pub mod full_capture;
 #[path = "model/grain128a.rs"]
 pub mod grain128a;
 #[path = "model/grainv1.rs"]
