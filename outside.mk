@@ -57,7 +57,7 @@ SHARED := $(OUT)/libtikhoplav.rlib
 MODEL := $(OUT)/libmodel.rlib
 EXTERNS := --extern tikhoplav=$(SHARED) --extern model=$(MODEL)
 
-$(SHARED): cli/lib.rs $(addprefix cli/,$(addsuffix .rs,archive frames grain128a grain128a_vectors grainv1 grainv1_vectors hex pieces sizes vectors)) build/libtikhoplav.a
+$(SHARED): cli/lib.rs $(addprefix cli/,$(addsuffix .rs,archive capture_vectors captures frames grain128a grain128a_vectors grainv1 grainv1_vectors hex pieces sizes vectors)) cli/capture.hex build/libtikhoplav.a
 	$(RUST) --crate-type rlib --crate-name tikhoplav -L native=build -o $@ $<
 
 build/tikhoplav: cli/main.rs $(wildcard cli/*.rs) cli/help.txt include/tikhoplav.h $(SHARED)

@@ -1,6 +1,8 @@
 //! What the tool, the tests and the benchmark share.
 
 pub mod archive;
+pub mod capture_vectors;
+pub mod captures;
 pub mod frames;
 pub mod grain128a;
 pub mod grain128a_vectors;

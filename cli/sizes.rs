@@ -14,6 +14,12 @@ pub const STATE_SIZE: usize = 64;
 pub const GRAIN128A_TAG_BITS_MAX: u32 = 32;
 pub const GRAINV1_KEY_SIZE: usize = 10;
 pub const GRAINV1_NONCE_SIZE: usize = 8;
+pub const CAPTURE_MAX: usize = 65536;
+pub const CAPTURE_DEPTH_MAX: usize = 6;
+pub const CAPTURE_ENTRIES_MAX: usize = 255;
+pub const CAPTURE_CODE_AT: usize = 4;
+pub const CAPTURE_NONCE_AT: usize = 5;
+pub const CAPTURE_DATA_AT: usize = 17;
 
 /// The bytes that a tag of Grain-128a takes.
 pub const fn grain128a_tag_size(tag_bits: u32) -> usize {
