@@ -1,7 +1,8 @@
 //! The archive beside the independent implementation, on seeded random inputs of both editions, of
-//! Grain-128a and of Grain v1.
+//! Grain-128a and of Grain v1, and on captures.
 
 mod ad_lengths;
+mod captures;
 mod damage;
 mod editions;
 mod equations;
@@ -101,6 +102,8 @@ fn run(seed: u64) -> Result<usize, String> {
     total += run_groups(&grain128a::GROUPS, 1, seed)?;
     println!("Grain v1");
     total += run_groups(&grainv1::GROUPS, 1, seed)?;
+    println!("captures");
+    total += run_groups(&captures::GROUPS, 1, seed)?;
     Ok(total)
 }
 
