@@ -1,8 +1,8 @@
 /*
  * Tikhoplav: Grain-128AEAD, both editions. Sealing and opening of whole byte strings; the two parts of a sealed one;
- * sealed CAN FD frames, and payloads that arrive in pieces, each with a section of its own below. Grain-128a, with and
- * without authentication, and Grain v1, which is for reading old tags only, have the last two sections, which say all
- * that is different there.
+ * sealed CAN FD frames, captures of frames, and payloads that arrive in pieces, each with a section of its own below.
+ * Grain-128a, with and without authentication, and Grain v1, which is for reading old tags only, have the last two
+ * sections, which say all that is different there.
  *
  * Sealing enciphers a message under a key and a nonce, and appends a tag over the message and its associated data
  * (AD). Opening recomputes the tag, and hands out the message only if the tag is right. The AD is authenticated and
@@ -46,10 +46,10 @@
  *   reads, or touches one that it writes.
  *
  *   A call takes at most 2048 bytes of stack below its caller's frame. This is measured, up to the largest lengths, and
- *   not proved: 1368 bytes for sealing and opening, 1656 for making and reading a frame, 888 for the calls on streams,
- *   872 for those of Grain-128a, 168 for that of Grain v1, with the memcpy and the memset of the GNU C library. Where
- *   these stand in a shared library and are bound at their first use, the dynamic linker takes stack of its own in those
- *   calls (about 3 KiB more on Linux).
+ *   not proved: 1368 bytes for sealing and opening, 1656 for making and reading a frame, TO-BE-MEASURED for the calls on
+ *   captures (at depth 6), 888 for those on streams, 872 for those of Grain-128a, 168 for that of Grain v1, with the
+ *   memcpy and the memset of the GNU C library. Where these stand in a shared library and are bound at their first use,
+ *   the dynamic linker takes stack of its own in those calls (about 3 KiB more on Linux).
  *
  * What the caller owes
  *
@@ -78,6 +78,9 @@
  *   tikhoplav_ciphertext_size: a length, 0 or more. It refuses nothing and writes nothing.
  *
  *   tikhoplav_coded_length and tikhoplav_length_code: a length and a length code, 0 or more, or one refusal. They write
+ *   nothing.
+ *
+ *   The calls on captures: a count of frames, a place in the capture or a length, 0 or more, or a refusal. They write
  *   nothing.
  *
  * The length of the AD, and payloads of earlier versions
@@ -110,6 +113,9 @@
  *   Versions before 3.5.0 have no Grain-128a. What this one seals with it they don't open.
  *
  *   Versions before 3.6.0 have no Grain v1.
+ *
+ *   Versions before 3.7.0 have no captures. The frames in one are frames like any other: those versions read them, from
+ *   3.3.0 on.
  *
  * What is not promised
  *
@@ -145,7 +151,7 @@
 extern "C" {
 #endif
 
-#define TIKHOPLAV_VERSION "3.6.0"
+#define TIKHOPLAV_VERSION "3.7.0"
 
 /* The editions: Grain-128AEAD and Grain-128AEADv2. */
 #define TIKHOPLAV_EDITION_1 1
@@ -167,9 +173,10 @@ extern "C" {
  * applies is the answer: a call with a short key and a long nonce answers -1, one with a blank key and too long an AD
  * answers -15, and an output that is too short answers -6 even where the tag is wrong too. An unknown edition answers
  * -23 whatever else is wrong. Making and reading a frame have some of these too, and five of their own; the calls on
- * streams have some, and two of their own; the calls of Grain-128a have some, with the sizes of its own tags, and two
- * of their own; that of Grain v1 has four of these, with the sizes of its own key and nonce. The sections on frames, on
- * streams, on Grain-128a and on Grain v1 have theirs, in the order of their checks.
+ * captures have none of these, and three of their own; the calls on streams have some, and two of their own; the calls
+ * of Grain-128a have some, with the sizes of its own tags, and two of their own; that of Grain v1 has four of these,
+ * with the sizes of its own key and nonce. The sections on frames, on captures, on streams, on Grain-128a and on Grain
+ * v1 have theirs, in the order of their checks.
  */
 
 /* The calls that name an edition only: it is neither TIKHOPLAV_EDITION_1 nor TIKHOPLAV_EDITION_2. */
@@ -466,6 +473,174 @@ int64_t tikhoplav_coded_length(uint32_t code);
  * Answers NOT_CODED_LENGTH if length is over TIKHOPLAV_FRAME_MAX, which no code holds.
  */
 int64_t tikhoplav_length_code(size_t length);
+
+/*
+ * Captures
+ *
+ *   A capture is a record of a bus: frames, each with its nonce, in groups, and groups lie in groups. The calls tell
+ *   how many frames a capture has, and where the body of each one is. They take no key, and the frames may be sealed
+ *   or not.
+ *
+ * The layout of a capture
+ *
+ *   A capture has at most TIKHOPLAV_CAPTURE_MAX bytes, 65536, and is one section, the outermost. Numbers have their
+ *   high byte first.
+ *
+ *     a section
+ *     from place   bytes       what
+ *     0            2           n, the count of entries: 0 to TIKHOPLAV_CAPTURE_ENTRIES_MAX, 255
+ *     2            8 n         the entries
+ *     2 + 8 n      the rest    the bodies, in the order of the entries
+ *
+ *     an entry
+ *     from place   bytes       what
+ *     0            1           the kind: 0 for a frame, 1 for a group
+ *     1            3           the length of the body
+ *     4            4           the offset of the body from the start of the section
+ *
+ *     the body of a frame
+ *     from place   bytes       what
+ *     0            4           the identifier: 0 to TIKHOPLAV_IDENTIFIER_MAX
+ *     4            1           the length code: 0 to TIKHOPLAV_LENGTH_CODE_MAX
+ *     5            12          the nonce
+ *     17           the rest    the data, of exactly the length that the code means
+ *
+ *   The first body stands right behind the entries, each next one where the one before it ends, and the last one ends
+ *   the section. A section without entries ends behind its count: it is the two bytes 00 00.
+ *
+ *   The body of a group is a section, with offsets from its own start. The outermost section is depth 1, that of a
+ *   group in it depth 2, and so on; the deepest may be depth TIKHOPLAV_CAPTURE_DEPTH_MAX, 6.
+ *
+ *   So this is a capture of one frame, under identifier 0x123, with a nonce of zeros and no data. Its body is the 17
+ *   bytes from place 10 on.
+ *
+ *     00 01   00 00 00 11 00 00 00 0a   00 00 01 23 00 00 00 00 00 00 00 00 00 00 00 00 00
+ *
+ * How a capture is walked
+ *
+ *   Of a section first all entries are judged, then the bodies, in the order of the entries. A group's turn is its
+ *   whole section, with all that lies in it, before the next body. Frames are numbered from 0 in this order, each
+ *   once, whatever groups they lie in.
+ *
+ * What the calls on captures refuse
+ *
+ *   Each call judges the whole capture, whatever frame is asked for. A capture that is broken anywhere, or too deep,
+ *   hands out nothing.
+ *
+ *     BROKEN_CAPTURE   -16   of the two, the one that the walk comes to first
+ *     TOO_DEEP         -18
+ *     PAST_LAST_FRAME  -17   only after the walk has found nothing to refuse
+ *
+ *   BROKEN_CAPTURE is capture_len over TIKHOPLAV_CAPTURE_MAX, which comes before all else, or any break of the layout:
+ *   a section too short for its count or its entries, a count over TIKHOPLAV_CAPTURE_ENTRIES_MAX, a kind other than 0
+ *   and 1, an offset other than where the body has to begin, a last body that does not end the section; in the body of
+ *   a frame, too few bytes, an identifier over TIKHOPLAV_IDENTIFIER_MAX, a code over TIKHOPLAV_LENGTH_CODE_MAX, data
+ *   that is shorter or longer than the code means. An empty capture has no count, and is broken.
+ *
+ *   TOO_DEEP is a group that would be depth 7. It is found when its body's turn comes, and nothing of that body is
+ *   looked at. So a break in the entries of the section that it lies in, or in a body before it, is BROKEN_CAPTURE; a
+ *   break in it, or in a body behind it, is never come to.
+ *
+ * What the caller owes for captures
+ *
+ *   - capture leads to capture_len readable bytes, which nobody writes to during a call. Nothing is kept between two
+ *     calls: a place holds for the bytes that the call was given. Whoever's capture can be written to by others copies
+ *     it first.
+ *   - A capture is not authenticated: whoever can write to it can leave frames out, repeat them and move them. The tag
+ *     of a sealed frame speaks for the identifier, the code, the nonce and the data of that frame alone.
+ *
+ * What the calls on captures take
+ *
+ *   The time of a call grows at most in proportion to capture_len: each call walks the capture anew, and no byte of it
+ *   more than a fixed number of times. A capture has at most 2617 frames, so that place and length of all of them take
+ *   some 5200 walks. The stack that is said above is that of a capture with sections at every depth, and of one that is
+ *   too deep.
+ *
+ * A whole program that opens all frames of a capture (a real key is random and secret)
+ *
+ *     #include <stdio.h>
+ *     #include <tikhoplav.h>
+ *
+ *     static const uint8_t key[TIKHOPLAV_KEY_SIZE] = "no real key";
+ *
+ *     static int64_t print_frame(const uint8_t *body, size_t body_len)
+ *     {
+ *         uint8_t message[TIKHOPLAV_FRAME_MESSAGE_MAX];
+ *         uint32_t identifier = (uint32_t)body[0] << 24 | (uint32_t)body[1] << 16 | (uint32_t)body[2] << 8 | body[3];
+ *         int64_t n = tikhoplav_frame_read(key, sizeof key,
+ *                                          body + TIKHOPLAV_CAPTURE_NONCE_AT, TIKHOPLAV_NONCE_SIZE,
+ *                                          identifier, body[TIKHOPLAV_CAPTURE_CODE_AT],
+ *                                          body + TIKHOPLAV_CAPTURE_DATA_AT, body_len - TIKHOPLAV_CAPTURE_DATA_AT,
+ *                                          message, sizeof message);
+ *         if (n >= 0)
+ *             printf("%.*s\n", (int)n, (const char *)message);
+ *         return n; // a refusal says that this frame is not genuine, or that nobody sealed it
+ *     }
+ *
+ *     static int64_t print_all(const uint8_t *capture, size_t capture_len)
+ *     {
+ *         int64_t i, count = tikhoplav_capture_frames(capture, capture_len), n = count;
+ *         for (i = 0; i < count && n >= 0; i++)
+ *             n = print_frame(capture + tikhoplav_capture_frame(capture, capture_len, (uint64_t)i),
+ *                             (size_t)tikhoplav_capture_frame_size(capture, capture_len, (uint64_t)i));
+ *         return n;
+ *     }
+ *
+ *     int main(void)
+ *     {
+ *         // One entry, for a frame of 37 bytes from place 10 on: identifier 0x7e8, code 11, nonce, data of 20 bytes.
+ *         static uint8_t capture[47] = { 0, 1, 0, 0, 0, 37, 0, 0, 0, 10, 0, 0, 0x07, 0xe8, 11, 'o', 'n', 'c', 'e' };
+ *         const uint8_t *nonce = capture + 10 + TIKHOPLAV_CAPTURE_NONCE_AT;
+ *         int64_t n = tikhoplav_frame_make(key, sizeof key, nonce, TIKHOPLAV_NONCE_SIZE, 0x7e8,
+ *                                          (const uint8_t *)"2400 rpm", 8, capture + 27, 20);
+ *         if (n >= 0)
+ *             n = print_all(capture, sizeof capture);
+ *         return n < 0 ? (int)-n : 0;
+ *     }
+ */
+
+/* The longest capture in bytes, the depth of its deepest section, and the most entries of a section. */
+#define TIKHOPLAV_CAPTURE_MAX 65536
+#define TIKHOPLAV_CAPTURE_DEPTH_MAX 6
+#define TIKHOPLAV_CAPTURE_ENTRIES_MAX 255
+
+/* Where length code, nonce and data begin in the body of a frame. The identifier begins at 0. */
+#define TIKHOPLAV_CAPTURE_CODE_AT 4
+#define TIKHOPLAV_CAPTURE_NONCE_AT 5
+#define TIKHOPLAV_CAPTURE_DATA_AT 17
+
+/* capture_len is over TIKHOPLAV_CAPTURE_MAX, or the layout is broken. */
+#define TIKHOPLAV_REFUSED_BROKEN_CAPTURE (-16)
+
+/* The capture has no frame of this number: it is the count of frames, or more. */
+#define TIKHOPLAV_REFUSED_PAST_LAST_FRAME (-17)
+
+/* A group would be deeper than TIKHOPLAV_CAPTURE_DEPTH_MAX. */
+#define TIKHOPLAV_REFUSED_TOO_DEEP (-18)
+
+/*
+ * Counts the frames of capture[0 .. capture_len - 1], in all of its groups.
+ *
+ * If the capture is in order, answers their count, which may be 0. Otherwise it answers BROKEN_CAPTURE or TOO_DEEP,
+ * whichever the walk comes to first.
+ */
+int64_t tikhoplav_capture_frames(const uint8_t *capture, size_t capture_len);
+
+/*
+ * Finds a frame of capture[0 .. capture_len - 1] by its number. The first one has number 0.
+ *
+ * If the capture is in order and has the frame, answers where the frame's body begins: p, 10 or more. The body is the
+ * bytes at capture + p, as many as tikhoplav_capture_frame_size answers. Otherwise it answers BROKEN_CAPTURE or
+ * TOO_DEEP, whichever the walk comes to first, and where it comes to neither, PAST_LAST_FRAME.
+ */
+int64_t tikhoplav_capture_frame(const uint8_t *capture, size_t capture_len, uint64_t number);
+
+/*
+ * The length of that body: TIKHOPLAV_CAPTURE_DATA_AT and the length of the data, 17 to 81.
+ *
+ * It refuses what tikhoplav_capture_frame refuses, with the same answer.
+ */
+int64_t tikhoplav_capture_frame_size(const uint8_t *capture, size_t capture_len, uint64_t number);
 
 /*
  * Payloads that arrive in pieces
