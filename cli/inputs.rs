@@ -6,7 +6,7 @@ use crate::options::Options;
 use crate::streams::Source;
 use std::ffi::OsStr;
 use tikhoplav::hex;
-use tikhoplav::sizes::GRAIN128A_TAG_BITS_MAX;
+use tikhoplav::sizes::{GRAIN128A_TAG_BITS_MAX, NONCE_SIZE};
 
 /// Key and nonce, which every cipher takes.
 pub struct Secrets {
@@ -17,7 +17,7 @@ pub struct Secrets {
 impl Secrets {
     pub fn read(options: &Options) -> Result<Secrets, Failure> {
         Ok(Secrets {
-            key: required(options, "--key", "--key-file")?,
+            key: key(options)?,
             nonce: required(options, "--nonce", "--nonce-file")?,
         })
     }
@@ -32,10 +32,29 @@ pub struct Cipher {
 impl Cipher {
     pub fn read(options: &Options) -> Result<Cipher, Failure> {
         Ok(Cipher {
-            edition: Number::read(options, "--edition", 1)?,
+            edition: edition(options)?,
             secrets: Secrets::read(options)?,
         })
     }
+
+    /// For frames that bring their nonces along; it is zeros until one does.
+    pub fn without_nonce(options: &Options) -> Result<Cipher, Failure> {
+        Ok(Cipher {
+            edition: edition(options)?,
+            secrets: Secrets {
+                key: key(options)?,
+                nonce: vec![0; NONCE_SIZE],
+            },
+        })
+    }
+}
+
+fn edition(options: &Options) -> Result<Number, Failure> {
+    Number::read(options, "--edition", 1)
+}
+
+fn key(options: &Options) -> Result<Vec<u8>, Failure> {
+    required(options, "--key", "--key-file")
 }
 
 /// What `seal` and `open` are given with Grain-128AEAD.
@@ -113,7 +132,25 @@ impl Given<'_> {
 
 /// What `--in` or standard input holds, as bytes or in hex.
 pub fn data(options: &Options) -> Result<Vec<u8>, Failure> {
-    let bytes = source(options)?.all()?;
+    all(options, source(options)?)
+}
+
+/// What FILE holds, as bytes or in hex.
+pub fn file(options: &Options) -> Result<Vec<u8>, Failure> {
+    let source = match options.file() {
+        None => {
+            return Err(Failure::Usage(
+                "FILE is needed, or - for standard input".to_string(),
+            ))
+        }
+        Some(path) if path != "-" => Source::file("FILE", path)?,
+        Some(_) => Source::stdin(),
+    };
+    all(options, source)
+}
+
+fn all(options: &Options, source: Source) -> Result<Vec<u8>, Failure> {
+    let bytes = source.all()?;
     if options.has("--hex-in") {
         named("--hex-in", hex::decode(&bytes))
     } else {

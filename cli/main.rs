@@ -3,6 +3,9 @@
 mod ad_pieces;
 mod algorithm;
 mod candump;
+mod capture;
+mod capture_checks;
+mod captured;
 mod check;
 mod crypt;
 mod failure;
@@ -13,8 +16,10 @@ mod grain128a_checks;
 mod grainv1_checks;
 mod inputs;
 mod job;
+mod json;
 mod notation;
 mod number;
+mod opened;
 mod options;
 mod output;
 mod parts;
@@ -32,6 +37,7 @@ use std::ffi::OsString;
 use std::process::ExitCode;
 use tikhoplav::archive::Call;
 use tikhoplav::sizes::{AD_MAX, FRAME_MESSAGE_MAX, GRAIN128A_TAG_BITS_MAX};
+use tikhoplav::sizes::{CAPTURE_DEPTH_MAX, CAPTURE_ENTRIES_MAX, CAPTURE_MAX};
 use tikhoplav::sizes::{GRAINV1_KEY_SIZE, GRAINV1_NONCE_SIZE};
 use tikhoplav::sizes::{IDENTIFIER_MAX, MESSAGE_MAX, SEALED_MAX};
 
@@ -49,6 +55,10 @@ fn help() -> String {
         TAG_BITS_MAX = GRAIN128A_TAG_BITS_MAX,
         V1_KEY_SIZE = GRAINV1_KEY_SIZE,
         V1_NONCE_SIZE = GRAINV1_NONCE_SIZE,
+        CAPTURE_MAX = CAPTURE_MAX,
+        ENTRIES_MAX = CAPTURE_ENTRIES_MAX,
+        DEPTH_MAX = CAPTURE_DEPTH_MAX,
+        TOO_DEEP = CAPTURE_DEPTH_MAX + 1,
         PIECE = streams::PIECE
     )
 }
@@ -74,6 +84,7 @@ fn run(arguments: &[OsString]) -> Result<(), Failure> {
         Some("crypt") => with_options(&options::CRYPT, rest, crypt::run),
         Some("check") => with_options(&options::CHECK, rest, check::run),
         Some("frame") => frame(rest),
+        Some("capture") => capture(rest),
         Some("parts") => with_options(&options::PARTS, rest, parts::run),
         Some("selftest") => alone(rest).and_then(|()| selftest::run()),
         Some("--help" | "-h" | "help") => streams::write_stdout(help().as_bytes()),
@@ -101,6 +112,23 @@ fn frame(arguments: &[OsString]) -> Result<(), Failure> {
         Some("--help") => streams::write_stdout(help().as_bytes()),
         _ => Err(Failure::Usage(format!(
             "unknown command 'frame {}'",
+            command.display()
+        ))),
+    }
+}
+
+fn capture(arguments: &[OsString]) -> Result<(), Failure> {
+    let Some((command, rest)) = arguments.split_first() else {
+        return Err(Failure::Usage(
+            "capture: list or open is needed".to_string(),
+        ));
+    };
+    match command.to_str() {
+        Some("list") => with_options(&options::CAPTURE_LIST, rest, capture::list),
+        Some("open") => with_options(&options::CAPTURE_OPEN, rest, capture::open),
+        Some("--help") => streams::write_stdout(help().as_bytes()),
+        _ => Err(Failure::Usage(format!(
+            "unknown command 'capture {}'",
             command.display()
         ))),
     }

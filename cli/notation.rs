@@ -8,6 +8,7 @@ const STANDARD_MAX: u32 = 0x7ff;
 const EXTENDED_DIGITS: usize = 8;
 
 /// An identifier, and the count of its hex digits: three for 11 bits, eight for 29.
+#[derive(Clone, Copy)]
 pub struct Identifier {
     pub number: u32,
     digits: usize,
@@ -20,6 +21,14 @@ pub struct Frame {
 }
 
 impl Identifier {
+    /// A number that is written with eight digits.
+    pub fn extended(number: u32) -> Identifier {
+        Identifier {
+            number,
+            digits: EXTENDED_DIGITS,
+        }
+    }
+
     /// Eight digits are taken whatever their number. The error says what is wrong with the text.
     pub fn parse(text: &[u8]) -> Result<Identifier, String> {
         let digits = text.len();

@@ -11,6 +11,8 @@ pub struct Known {
     alone: &'static [&'static str],
     /// Those of other commands, and why this one has none.
     elsewhere: &'static [Reason],
+    /// Whether it takes FILE, which is no option.
+    file: bool,
 }
 
 /// An option, and why it can't be given.
@@ -26,6 +28,7 @@ pub const SEAL_AND_OPEN: Known = Known {
     ],
     alone: &["--hex-in", "--hex-out", "--help"],
     elsewhere: &[],
+    file: false,
 };
 
 pub const CRYPT: Known = Known {
@@ -37,6 +40,7 @@ pub const CRYPT: Known = Known {
         ("--ad-file", "crypt authenticates nothing"),
         ("--tag-bits", "crypt makes no tag"),
     ],
+    file: false,
 };
 
 const CHECK_NO_OTHER: &str = "check is for grain-128aead alone";
@@ -45,23 +49,25 @@ pub const CHECK: Known = Known {
     with_value: &[SECRETS, &["--edition", "--ad", "--ad-file", "--in"]],
     alone: &["--hex-in", "--help"],
     elsewhere: &[("--cipher", CHECK_NO_OTHER), ("--tag-bits", CHECK_NO_OTHER)],
+    file: false,
 };
 
-const FRAMES_NO_OTHER: &[Reason] = &[
-    ("--cipher", "frames are for grain-128aead alone"),
-    ("--tag-bits", "frames are for grain-128aead alone"),
-];
+const FRAMES_ALONE: &str = "frames are for grain-128aead alone";
+
+const FRAMES_NO_OTHER: &[Reason] = &[("--cipher", FRAMES_ALONE), ("--tag-bits", FRAMES_ALONE)];
 
 pub const FRAME_MAKE: Known = Known {
     with_value: &[SECRETS, &["--edition", "--id", "--flags", "--in", "--out"]],
     alone: &["--hex-in", "--help"],
     elsewhere: FRAMES_NO_OTHER,
+    file: false,
 };
 
 pub const FRAME_READ: Known = Known {
     with_value: &[SECRETS, &["--edition", "--in", "--out"]],
     alone: &["--hex-out", "--help"],
     elsewhere: FRAMES_NO_OTHER,
+    file: false,
 };
 
 const PARTS_NO_OTHER: &str = "parts is for grain-128aead alone, whose tags have 8 bytes";
@@ -70,16 +76,39 @@ pub const PARTS: Known = Known {
     with_value: &[&["--in"]],
     alone: &["--hex-in", "--help"],
     elsewhere: &[("--cipher", PARTS_NO_OTHER), ("--tag-bits", PARTS_NO_OTHER)],
+    file: false,
+};
+
+pub const CAPTURE_LIST: Known = Known {
+    with_value: &[],
+    alone: &["--json", "--hex-in", "--help"],
+    elsewhere: &[],
+    file: true,
+};
+
+const OWN_NONCES: &str = "each frame of a capture has its own nonce";
+
+pub const CAPTURE_OPEN: Known = Known {
+    with_value: &[&["--key", "--key-file", "--edition"]],
+    alone: &["--json", "--hex-in", "--help"],
+    elsewhere: &[
+        ("--nonce", OWN_NONCES),
+        ("--nonce-file", OWN_NONCES),
+        ("--cipher", FRAMES_ALONE),
+        ("--tag-bits", FRAMES_ALONE),
+    ],
+    file: true,
 };
 
 #[derive(Default)]
 pub struct Options {
     values: BTreeMap<&'static str, OsString>,
     switches: BTreeSet<&'static str>,
+    file: Option<OsString>,
 }
 
 impl Options {
-    /// Reads `--name value`, `--name=value` and `--name`, each at most once.
+    /// Reads `--name value`, `--name=value`, `--name` and FILE, each at most once.
     pub fn parse(known: &Known, arguments: &[OsString]) -> Result<Options, Failure> {
         let mut options = Options::default();
         let mut rest = arguments.iter();
@@ -94,6 +123,9 @@ impl Options {
                 let value = attached.or_else(|| rest.next().map(OsString::as_os_str));
                 let value = present(option, value, attached.is_some())?;
                 options.values.insert(option, value.to_owned()).is_none()
+            } else if known.file && options.file.is_none() && is_file(argument) {
+                options.file = Some(argument.clone());
+                true
             } else {
                 let value = attached.or_else(|| rest.next().map(OsString::as_os_str));
                 return usage(unknown(known, name, value));
@@ -111,6 +143,10 @@ impl Options {
 
     pub fn value(&self, name: &str) -> Option<&OsStr> {
         self.values.get(name).map(OsString::as_os_str)
+    }
+
+    pub fn file(&self) -> Option<&OsStr> {
+        self.file.as_deref()
     }
 
     /// None of these is given.
@@ -134,6 +170,11 @@ fn split(argument: &OsStr) -> (&OsStr, Option<&OsStr>) {
     }
 }
 
+/// No option: `-`, or a name that begins otherwise.
+fn is_file(argument: &OsStr) -> bool {
+    argument == "-" || !argument.as_bytes().starts_with(b"-")
+}
+
 fn find(names: &[&'static str], name: &OsStr) -> Option<&'static str> {
     names.iter().copied().find(|&known| name == known)
 }
@@ -155,10 +196,10 @@ fn unknown(known: &Known, name: &OsStr, value: Option<&OsStr>) -> String {
             _ => format!("{name}: {why}"),
         };
     }
-    let kind = if name.as_bytes().starts_with(b"-") {
-        "unknown option"
-    } else {
+    let kind = if is_file(name) {
         "unexpected argument"
+    } else {
+        "unknown option"
     };
     format!("{kind} '{}'", name.display())
 }

@@ -6,8 +6,12 @@ use tikhoplav::archive::Call;
 use tikhoplav::frames;
 use tikhoplav::sizes::{grain128a_tag_size, GRAIN128A_TAG_BITS_MAX};
 use tikhoplav::sizes::{AD_MAX, FRAME_MESSAGE_MAX, IDENTIFIER_MAX, KEY_SIZE};
+use tikhoplav::sizes::{CAPTURE_DEPTH_MAX, CAPTURE_MAX};
 use tikhoplav::sizes::{GRAINV1_KEY_SIZE, GRAINV1_NONCE_SIZE};
 use tikhoplav::sizes::{MESSAGE_MAX, NONCE_SIZE, SEALED_MAX, TAG_SIZE};
+
+/// The count of entries that a section begins with.
+const COUNT_SIZE: usize = 2;
 
 const WRONG_TAG: &str = "the tag is wrong: the key, the nonce, the associated data or the sealed \
     input is not as it was sealed";
@@ -29,6 +33,12 @@ const TRUE_KEY: &str = "the key that it was sealed with; what was sealed with ze
     the version that sealed it, one before 3.0.0";
 
 const TRUE_KEY_OF_FRAME: &str = "read the frame with the key that it was sealed with";
+
+const TRUE_KEY_OF_CAPTURE: &str = "open the capture with the key that its frames were sealed with";
+
+const BROKEN_CAPTURE: &str =
+    "the layout of the capture is broken: a count, an entry, or a frame's \
+    identifier, length code or length is not what it must be";
 
 const TRUE_KEY_OF_GRAIN128A: &str = "open with the key that it was sealed with";
 
@@ -150,6 +160,29 @@ pub fn of_reading(cipher: &Cipher, frame: &Frame, number: u8) -> String {
         11 => wrong_message_length(&frame.data),
         12 => filler_not_zero(&frame.data),
         _ => of_cipher(cipher, TRUE_KEY_OF_FRAME, number),
+    }
+}
+
+/// What is wrong with the edition or the key of `capture open`.
+pub fn of_opening(cipher: &Cipher, number: u8) -> String {
+    of_cipher(cipher, TRUE_KEY_OF_CAPTURE, number)
+}
+
+/// What is wrong with a capture, or with the number of a frame.
+pub fn of_capture(capture: &[u8], number: u8) -> String {
+    match number {
+        16 if capture.len() > CAPTURE_MAX => too_long("capture", capture, CAPTURE_MAX),
+        16 if capture.len() < COUNT_SIZE => format!(
+            "{}, and its count alone is {COUNT_SIZE}",
+            is("capture", capture)
+        ),
+        16 => BROKEN_CAPTURE.to_string(),
+        17 => "the number is past the last frame of the capture".to_string(),
+        18 => format!(
+            "a group of the capture would be at depth {}, and the deepest may be at {CAPTURE_DEPTH_MAX}",
+            CAPTURE_DEPTH_MAX + 1
+        ),
+        _ => unreachable!("the header names no such refusal {number}"),
     }
 }
 

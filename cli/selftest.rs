@@ -1,5 +1,6 @@
 //! `tikhoplav selftest`: the archive against published vectors and stored answers.
 
+use crate::capture_checks;
 use crate::failure::Failure;
 use crate::frame_checks;
 use crate::grain128a_checks;
@@ -63,6 +64,7 @@ pub fn run() -> Result<(), Failure> {
         ),
         (stream_checks::HEADING, stream_checks::all()),
         (frame_checks::HEADING, frame_checks::all()),
+        (capture_checks::HEADING, capture_checks::all()),
         (grain128a_checks::HEADING, grain128a_checks::all()),
         (grainv1_checks::HEADING, grainv1_checks::all()),
     ];

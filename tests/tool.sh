@@ -318,6 +318,9 @@ help_and_selftest() {
   done
   bytes 500 >log.bin
   bytes 12 >0001.nonce
+  # One frame, the one of the examples of a frame.
+  printf '\0\1\0\0\0\x1d\0\0\0\x0a\0\0\x07\xe8\x09\0\0\0\0\0\0\0\0\0\0\0\3' >bus.capture
+  printf '\x02\x06\x92\x9d\xe3\xfb\xcb\x4c\x98\x3c\xc6\0' >>bus.capture
   sed -n '/^EXAMPLES/,$s/^    //p' help >examples
   check "the examples of --help" env PATH="$(dirname "$tool"):$PATH" sh -e examples >shown
   check "the examples in hex, of each edition" [ "$(grep -cE '^[0-9a-f]{46}$' shown)" = 2 ]
@@ -325,13 +328,16 @@ help_and_selftest() {
   check "the example of Grain-128a" [ "$(grep -cE '^[0-9a-f]{38}$' shown)" = 1 ]
   check "the example of a file without a tag" cmp log.bin log.deciphered
   check "the example of Grain v1" grep -qx "tag 4711" shown
+  check "the examples of a capture" cmp <(grep -A 2 '^0 10 000007E8 9' shown) <(printf '%s\n' \
+    '0 10 000007E8 9 000000000000000000000003 0206929de3fbcb4c983cc600' '0 10 000007E8 opened 0960' \
+    '1 frame, 1 opened, 0 refused')
   check "the examples of a frame" [ "$(sed -n '/##/{N;p;}' shown)" = $'7E8##10206929DE3FBCB4C983CC600\n0960' ]
   run 0 parts --in log.sealed
   check "the example of the parts" cmp output <(tail -n 2 shown)
   run 0 --version
   check "--version" [ "$(cat output)" = "tikhoplav $version" ]
   run 0 selftest
-  check "selftest" [ "$(tail -n 1 output)" = "219 passed, 0 failed" ]
+  check "selftest" [ "$(tail -n 1 output)" = "237 passed, 0 failed" ]
   check "selftest says which published vector it leaves out" grep -q "^  Published vector 1 is under this key" output
 }
 
