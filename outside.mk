@@ -82,13 +82,13 @@ WARNINGS := -Wall -Wextra -Wpedantic -Wshadow -Wconversion -Wsign-conversion -Wc
 C99 := $(CC) -std=c99 $(WARNINGS) -Wstrict-prototypes -Wmissing-prototypes -Wc++-compat -Iinclude
 CXX11 := $(CXX) -std=c++11 $(WARNINGS) -Iinclude -x c++
 SANITIZE := -O1 -g -fsanitize=address,undefined -fno-sanitize-recover=all
-PROGRAMS := calls frames streams grain128a grainv1
+PROGRAMS := calls frames captures streams grain128a grainv1
 TRIED := $(foreach program,$(PROGRAMS),$(addprefix $(OUT)/$(program)-,c c++ plain))
 
-$(TRIED): tests/checks.h include/tikhoplav.h build/libtikhoplav.a
+$(TRIED): tests/checks.h tests/sections.h include/tikhoplav.h build/libtikhoplav.a
 
 # memcpy and memset are bound before the first call, so that the dynamic linker takes no stack in it.
-$(OUT)/stack: tests/stack.c include/tikhoplav.h build/libtikhoplav.a
+$(OUT)/stack: tests/stack.c tests/sections.h include/tikhoplav.h build/libtikhoplav.a
 	$(C99) -Wl,-z,now $< build/libtikhoplav.a -o $@
 
 $(OUT)/%-c: tests/%.c
