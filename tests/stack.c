@@ -5,7 +5,7 @@
 #include <string.h>
 #include <ucontext.h>
 
-#include <tikhoplav.h>
+#include "sections.h"
 
 /* What the header says. */
 enum { ENOUGH = 2048 };
@@ -20,13 +20,16 @@ static uint8_t field[TIKHOPLAV_FRAME_MAX], frame_message[TIKHOPLAV_FRAME_MESSAGE
 static uint8_t state[TIKHOPLAV_STATE_SIZE], tag[TIKHOPLAV_TAG_SIZE];
 static uint8_t with_authentication[TIKHOPLAV_NONCE_SIZE] = { 0x80 };
 static uint8_t short_key[TIKHOPLAV_GRAINV1_KEY_SIZE] = { 1 }, short_nonce[TIKHOPLAV_GRAINV1_NONCE_SIZE];
+static uint8_t capture[TIKHOPLAV_CAPTURE_MAX + 1];
 static int64_t answer;
 
 /* What the next call on a stream is given: the edition, and the length of AD, piece, output or tag. What the next call
    of Grain-128a is given: the bits of the tag, and the length of message or sealed input. What the next one of Grain v1
-   is given: the length of the message. */
+   is given: the length of the message. What the next one on captures is given: the length of the capture, and a frame's
+   number. */
 static uint32_t edition, tag_bits;
 static size_t len;
+static uint64_t frame_number;
 
 static void no_call(void)
 {
@@ -332,6 +335,21 @@ static void grainv1_crypt_without_room(void)
     answer = tikhoplav_grainv1_crypt(short_key, sizeof short_key, short_nonce, sizeof short_nonce, ad, len, NULL, 0);
 }
 
+static void capture_frames(void)
+{
+    answer = tikhoplav_capture_frames(capture, len);
+}
+
+static void capture_frame(void)
+{
+    answer = tikhoplav_capture_frame(capture, len, frame_number);
+}
+
+static void capture_frame_size(void)
+{
+    answer = tikhoplav_capture_frame_size(capture, len, frame_number);
+}
+
 typedef struct {
     void (*run)(void);
     int64_t expected;
@@ -484,6 +502,74 @@ static const grainv1_trial grainv1_trials[] = {
     { grainv1_crypt_without_room, 1, TIKHOPLAV_REFUSED_OUTPUT_TOO_SHORT },
 };
 
+static size_t no_capture(uint8_t *at)
+{
+    (void)at;
+    return 0;
+}
+
+static size_t no_entries(uint8_t *at)
+{
+    return section_at(at, 0).end;
+}
+
+static size_t most_entries(uint8_t *at)
+{
+    return frames_at(at, TIKHOPLAV_CAPTURE_ENTRIES_MAX, TIKHOPLAV_LENGTH_CODE_MAX);
+}
+
+static size_t too_many_entries(uint8_t *at)
+{
+    return frames_at(at, TIKHOPLAV_CAPTURE_ENTRIES_MAX + 1, 0);
+}
+
+static size_t deepest(uint8_t *at)
+{
+    return chain_at(at, TIKHOPLAV_CAPTURE_DEPTH_MAX);
+}
+
+/* A break at the deepest place. */
+static size_t broken_at_the_deepest(uint8_t *at)
+{
+    size_t size = deepest(at);
+
+    at[size - TIKHOPLAV_CAPTURE_DATA_AT] = 0x20;
+    return size;
+}
+
+static size_t too_deep(uint8_t *at)
+{
+    return chain_at(at, TIKHOPLAV_CAPTURE_DEPTH_MAX + 1);
+}
+
+static size_t longest(uint8_t *at)
+{
+    return longest_at(at, 0);
+}
+
+static size_t too_long(uint8_t *at)
+{
+    return longest_at(at, 1);
+}
+
+/* A capture, what counting its frames answers, and the place of its last frame. */
+typedef struct {
+    size_t (*write)(uint8_t *at);
+    int64_t frames, last;
+} capture_trial;
+
+static const capture_trial capture_trials[] = {
+    { no_capture, TIKHOPLAV_REFUSED_BROKEN_CAPTURE, 0 },
+    { no_entries, 0, 0 },
+    { most_entries, TIKHOPLAV_CAPTURE_ENTRIES_MAX, 2042 + 254 * 17 },
+    { too_many_entries, TIKHOPLAV_REFUSED_BROKEN_CAPTURE, 0 },
+    { deepest, 1, 10 * TIKHOPLAV_CAPTURE_DEPTH_MAX },
+    { broken_at_the_deepest, TIKHOPLAV_REFUSED_BROKEN_CAPTURE, 0 },
+    { too_deep, TIKHOPLAV_REFUSED_TOO_DEEP, 0 },
+    { longest, FRAMES_OF_THE_LONGEST, TIKHOPLAV_CAPTURE_MAX - 41 },
+    { too_long, TIKHOPLAV_REFUSED_BROKEN_CAPTURE, 0 },
+};
+
 /* The bytes from the lowest one that is not as it was filled up to the top. */
 static size_t used(void (*run)(void))
 {
@@ -565,19 +651,44 @@ static size_t most_of_grainv1(void)
     return most;
 }
 
+/* All three calls: the latter two on the last frame, and on a number past it. */
+static size_t most_of_captures(void)
+{
+    size_t i, most = 0;
+    const capture_trial *t;
+    int64_t past;
+
+    for (i = 0; i < sizeof capture_trials / sizeof *capture_trials; i++) {
+        t = &capture_trials[i];
+        len = t->write(capture);
+        most = larger(most, taken(capture_frames, t->frames, "captures", i));
+        frame_number = UINT64_MAX;
+        past = t->frames < 0 ? t->frames : TIKHOPLAV_REFUSED_PAST_LAST_FRAME;
+        most = larger(most, taken(capture_frame, past, "captures", i));
+        most = larger(most, taken(capture_frame_size, past, "captures", i));
+        if (t->frames > 0) {
+            frame_number = (uint64_t)t->frames - 1;
+            most = larger(most, taken(capture_frame, t->last, "captures", i));
+            most = larger(most, taken(capture_frame_size, (int64_t)len - t->last, "captures", i));
+        }
+    }
+    return most;
+}
+
 int main(void)
 {
     const size_t once = sizeof stream_trials / sizeof *stream_trials;
     const size_t each = sizeof stream_trials_of_each_edition / sizeof *stream_trials_of_each_edition;
     size_t others = most_of_trials(), streams = most_of_streams(stream_trials, once, 0);
-    size_t grain128a = most_of_grain128a(), grainv1 = most_of_grainv1(), most;
+    size_t grain128a = most_of_grain128a(), grainv1 = most_of_grainv1(), captures = most_of_captures(), most;
 
     for (edition = TIKHOPLAV_EDITION_1; edition <= TIKHOPLAV_EDITION_2; edition++)
         streams = larger(streams, most_of_streams(stream_trials_of_each_edition, each,
                                                   edition == TIKHOPLAV_EDITION_1 ? 384 : 512));
-    most = larger(larger(others, streams), larger(grain128a, grainv1));
-    printf("at most %zu bytes; in the calls on streams, %zu; in those of Grain-128a, %zu; in that of Grain v1, %zu\n",
-           most, streams, grain128a, grainv1);
+    most = larger(larger(larger(others, captures), streams), larger(grain128a, grainv1));
+    printf("at most %zu bytes; in the calls on captures, %zu; in those on streams, %zu; in those of Grain-128a, %zu; "
+           "in that of Grain v1, %zu\n",
+           most, captures, streams, grain128a, grainv1);
     if (most > ENOUGH) {
         fprintf(stderr, "tests/stack.c: the header says %d\n", ENOUGH);
         return 1;
