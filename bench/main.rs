@@ -1,6 +1,7 @@
 //! The archive beside the independent implementation, which is the yardstick: the same work, on
 //! the same machine, in rounds by turns.
 
+mod captures;
 mod grain128a;
 mod grainv1;
 mod growth;
@@ -10,7 +11,7 @@ mod probes;
 mod rounds;
 
 use rounds::{Pair, ROUNDS, ROUND_TIME};
-use tikhoplav::sizes::MESSAGE_MAX;
+use tikhoplav::sizes::{CAPTURE_MAX, MESSAGE_MAX};
 
 const KIB: usize = 1024;
 /// What streams are timed at.
@@ -76,6 +77,8 @@ fn main() {
     );
     println!("\nWhat a byte more costs when sealing, times what it costs at the largest size:\n");
     growth::print();
+
+    captures();
 }
 
 fn calls() {
@@ -109,6 +112,21 @@ fn grainv1_calls() {
     for size in MESSAGE_LENS {
         row("crypt, bytes", size, &mut grainv1::crypt(size));
     }
+}
+
+fn captures() {
+    println!(
+        "\nCaptures, full of frames without data. The yardstick of judging is its own reader:"
+    );
+    for size in [4 * KIB, CAPTURE_MAX] {
+        row("judging, bytes", size, &mut captures::judging(size));
+    }
+    println!(
+        "\nWhat a byte of a capture costs when judging, times what it costs at the largest size:\n"
+    );
+    captures::print_growth();
+    println!("\nPlace and length of all frames of the longest capture, times one judging of it:");
+    captures::print_stepping();
 }
 
 fn engines() {
