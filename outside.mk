@@ -44,7 +44,7 @@ $(OUT):
 	mkdir -p $@
 
 # The archive depends on the files that are proved and on their folders, so that a removed file counts too.
-VERIFIED := bits key lengths refusals tagged untagged length_codes generators preoutput strokes authenticator machine startup strings payload checks frame_checks mode_checks limits grain128aead grain128a grainv1 named_edition frames named_frames stream_checks stream_state streams capi
+VERIFIED := bits key lengths refusals tagged untagged length_codes captures generators preoutput strokes authenticator machine startup strings payload checks frame_checks mode_checks limits grain128aead grain128a grainv1 named_edition frames named_frames stream_checks stream_state streams capi
 PROVED := $(shell find $(foreach crate,$(VERIFIED),$(wildcard $(addprefix crates/$(crate)/,src specs proofs))))
 
 build/libtikhoplav.a: crates.txt $(PROVED) | $(OUT)
