@@ -547,7 +547,8 @@ int64_t tikhoplav_length_code(size_t length);
  *     calls: a place holds for the bytes that the call was given. Whoever's capture can be written to by others copies
  *     it first.
  *   - A capture is not authenticated: whoever can write to it can leave frames out, repeat them and move them. The tag
- *     of a sealed frame speaks for the identifier, the code, the nonce and the data of that frame alone.
+ *     of a sealed frame speaks for that frame alone, for its identifier, code, nonce and ciphertext. It is over neither
+ *     M nor the filler: what reading does about these is said above, with the data field of a sealed frame.
  *
  * What the calls on captures take
  *
