@@ -552,10 +552,9 @@ int64_t tikhoplav_length_code(size_t length);
  *
  * What the calls on captures take
  *
- *   The time of a call grows at most in proportion to capture_len: each call walks the capture anew, and no byte of it
- *   more than a fixed number of times. A capture has at most 2617 frames, so that place and length of all of them take
- *   some 5200 walks. The stack that is said above is that of a capture with sections at every depth, and of one that is
- *   too deep.
+ *   Each call walks the capture anew. Its time grows in proportion to capture_len; this is measured, up to the longest
+ *   capture, and not proved. A capture has at most 2617 frames, so that place and length of all of them take some 5200
+ *   walks. The stack that is said above is that of a capture with sections at every depth, and of one that is too deep.
  *
  * A whole program that opens all frames of a capture (a real key is random and secret)
  *
