@@ -367,6 +367,38 @@ static void every_frame_of_the_longest(void)
     free(c.bytes);
 }
 
+enum { MOST_FRAMES = 10 * TIKHOPLAV_CAPTURE_ENTRIES_MAX + 67, MOST_FRAMES_LEN = 65527 };
+
+/* Frames without data, in ten groups of as many as a section has, and the rest beside them: as few bytes as this count
+   takes. Answers the length. */
+static size_t many_at(uint8_t *at, size_t count)
+{
+    const size_t beside = count - 10 * TIKHOPLAV_CAPTURE_ENTRIES_MAX;
+    section s = section_at(at, 10 + beside);
+
+    while (s.entries < 10)
+        add(&s, GROUP, frames_at(next_body(&s), TIKHOPLAV_CAPTURE_ENTRIES_MAX, 0));
+    while (s.entries < 10 + beside)
+        add(&s, FRAME, frame_at(next_body(&s), (uint32_t)s.entries, 0));
+    return s.end;
+}
+
+/* As many frames as a capture has at most; with one more it is too long. */
+static void most_frames(void)
+{
+    size_t len = many_at(scratch, MOST_FRAMES);
+    slice c = copy(scratch, len);
+
+    CHECK(MOST_FRAMES == 2617 && len == MOST_FRAMES_LEN);
+    accepted(c.bytes, len, MOST_FRAMES);
+    CHECK(place_of(c, 0) == COUNT_SIZE + ENTRY_SIZE * 77 + COUNT_SIZE + ENTRY_SIZE * TIKHOPLAV_CAPTURE_ENTRIES_MAX);
+    CHECK(size_of(c, 0) == TIKHOPLAV_CAPTURE_DATA_AT);
+    CHECK(place_of(c, MOST_FRAMES - 1) == MOST_FRAMES_LEN - TIKHOPLAV_CAPTURE_DATA_AT);
+    CHECK(size_of(c, MOST_FRAMES - 1) == TIKHOPLAV_CAPTURE_DATA_AT);
+    free(c.bytes);
+    refused(scratch, many_at(scratch, MOST_FRAMES + 1), TIKHOPLAV_REFUSED_BROKEN_CAPTURE);
+}
+
 static const uint8_t key[TIKHOPLAV_KEY_SIZE] = { 1, 2, 3 };
 
 /* The body of a frame that seals so many bytes of zeros; the nonce ends with the same number. */
@@ -489,6 +521,7 @@ int main(void)
     longest();
     too_long();
     every_frame_of_the_longest();
+    most_frames();
     sealed_frames(TIKHOPLAV_EDITION_1);
     sealed_frames(TIKHOPLAV_EDITION_2);
     threads();
