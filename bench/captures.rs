@@ -1,4 +1,4 @@
-//! Captures full of frames without data, judged and gone through.
+//! Captures full of frames, all but one or two without data, judged and gone through.
 
 use crate::rounds::{least, timed, Pair, ROUNDS};
 use model::capture_writer::write;

@@ -116,7 +116,7 @@ fn grainv1_calls() {
 
 fn captures() {
     println!(
-        "\nCaptures, full of frames without data. The yardstick of judging is its own reader:"
+        "\nCaptures, full of frames, all but one or two without data. The yardstick of judging is its own reader:"
     );
     for size in [4 * KIB, CAPTURE_MAX] {
         row("judging, bytes", size, &mut captures::judging(size));

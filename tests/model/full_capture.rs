@@ -1,4 +1,4 @@
-//! Captures of a given length, with as many frames as it holds.
+//! Captures of a given length, full of frames.
 
 use crate::capture_writer::{section_size, Frame, Item};
 use crate::frames::coded_length;
