@@ -49,6 +49,9 @@ pub const OF_EACH_EDITION: [(&str, Group); 22] = [
     ("frames of no edition", editions::unknown),
 ];
 
+/// The bytes that each length code means.
+pub const LENGTHS: [usize; 16] = [0, 1, 2, 3, 4, 5, 6, 7, 8, 12, 16, 20, 24, 32, 48, 64];
+
 /// The longest message of a frame.
 const LONGEST: usize = 55;
 

@@ -1,11 +1,11 @@
 //! The bodies of frames: identifier, length code, length.
 
 use super::trees::leaves;
+use crate::frames::LENGTHS;
 use crate::judge::{Judge, Verdict};
 use model::capture_writer::{write, Frame, Item};
 use model::captures::Body;
 
-const LENGTHS: [usize; 16] = [0, 1, 2, 3, 4, 5, 6, 7, 8, 12, 16, 20, 24, 32, 48, 64];
 const RANDOM_TRIALS: usize = 2000;
 
 /// Every code with every length of the body around those that a code means.

@@ -1,12 +1,11 @@
 //! Random captures, nested and wide.
 
+use crate::frames::LENGTHS;
 use crate::judge::{Judge, Verdict};
 use crate::random::Random;
 use model::capture_writer::{section_size, write, Frame, Item};
 use tikhoplav::captures::parts;
 use tikhoplav::sizes::CAPTURE_MAX;
-
-const LENGTHS: [usize; 16] = [0, 1, 2, 3, 4, 5, 6, 7, 8, 12, 16, 20, 24, 32, 48, 64];
 
 const DEEP_TRIALS: usize = 8000;
 /// How many captures of at most which size.

@@ -1,15 +1,16 @@
 //! The length codes.
 
+use super::LENGTHS;
 use crate::judge::{Judge, Verdict};
 use tikhoplav::frames::{coded_length, length_code};
-
-const LENGTHS: [i64; 16] = [0, 1, 2, 3, 4, 5, 6, 7, 8, 12, 16, 20, 24, 32, 48, 64];
 
 /// Around every power of two too, so that a number cut to fewer bits is among them.
 pub fn lengths(judge: &mut Judge) -> Verdict {
     let powers = (5..32).flat_map(|k| (0..16).map(move |low| (1 << k) + low));
     for code in (0..=20).chain(powers).chain([u32::MAX]) {
-        let expected = LENGTHS.get(code as usize).copied().unwrap_or(-10);
+        let expected = LENGTHS
+            .get(code as usize)
+            .map_or(-10, |&bytes| bytes as i64);
         let model = answer(model::frames::coded_length(code).map(|bytes| bytes as i64));
         let same = [coded_length(code), model] == [expected; 2];
         judge.holds(&format!("code {code} means {expected}"), same)?;
@@ -20,7 +21,7 @@ pub fn lengths(judge: &mut Judge) -> Verdict {
 pub fn codes(judge: &mut Judge) -> Verdict {
     let powers = (7..usize::BITS).flat_map(|k| (0..65).map(move |low| (1 << k) + low));
     for length in (0..=70).chain(powers).chain([usize::MAX]) {
-        let holds = |&bytes: &i64| bytes as usize >= length;
+        let holds = |&bytes: &usize| bytes >= length;
         let expected = LENGTHS
             .iter()
             .position(holds)
