@@ -46,3 +46,6 @@ pub const GROUPS: [(&str, Group); 26] = [
     ("random captures, each field damaged", fields::every_field),
     ("random captures, bytes damaged", bytes::damaged),
 ];
+
+/// How deep the deepest section of a capture may be.
+const DEEPEST: usize = 6;

@@ -1,10 +1,10 @@
 //! Groups in groups.
 
 use super::judge::Walked;
+use super::DEEPEST;
 use crate::judge::{Judge, Verdict};
 use model::capture_writer::{write, Frame, Item, Written};
 
-const DEEPEST: usize = 6;
 const TRIED: usize = 40;
 
 /// Nothing but groups, the innermost without entries or with a frame.

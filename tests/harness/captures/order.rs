@@ -1,10 +1,9 @@
 //! A group too deep and another break: the first in walking order counts, and a section's entries
 //! come before its bodies.
 
+use super::DEEPEST;
 use crate::judge::{Judge, Verdict};
 use model::capture_writer::{write, Field, Frame, Item};
-
-const DEEPEST: usize = 6;
 
 /// Bodies with a break of layout, by their kinds.
 fn breaks() -> Vec<Item> {
