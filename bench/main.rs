@@ -29,6 +29,20 @@ fn row(name: &str, size: usize, pair: &mut Pair) {
 }
 
 fn main() {
+    heading();
+    calls();
+    engines();
+    grain128a_calls();
+    grainv1_calls();
+    editions();
+    streams();
+    opening_to_sealing();
+    println!("\nWhat a byte more costs when sealing, times what it costs at the largest size:\n");
+    growth::print();
+    captures();
+}
+
+fn heading() {
     println!(
         "Times the yardstick's speed, both at opt-level 3: {ROUNDS} rounds of each by turns, of"
     );
@@ -41,44 +55,6 @@ fn main() {
         "{:<26} {:>7} {:>8} {:>8}  (min .. max)",
         "", "", "best", "median"
     );
-    calls();
-    engines();
-
-    println!(
-        "\nGrain-128a, with a tag of {} bits and without one. The yardstick of sealing, opening and crypt is",
-        grain128a::TAG_BITS
-    );
-    println!("its own sealing, opening and crypt with Grain-128a:");
-    grain128a_calls();
-    println!("\nCrypt beside the yardstick's sealing of the same message with Grain-128a:");
-    for size in MESSAGE_LENS {
-        row("crypt, bytes", size, &mut grain128a::crypt_to_sealing(size));
-    }
-
-    grainv1_calls();
-
-    println!("\nThe second edition's speed as a part of the first's, both by the archive:");
-    editions();
-
-    println!(
-        "\nThe speed in pieces of so many bytes as a part of the whole-string call's, both by the archive,"
-    );
-    println!("at {} bytes; checking beside opening:", 32 * KIB);
-    streams();
-
-    println!(
-        "\nOpening's speed as a part of sealing's, at {} bytes:",
-        32 * KIB
-    );
-    println!(
-        "{:<34} {:>8.2}",
-        "best rounds",
-        jobs::opening_to_sealing(32 * KIB)
-    );
-    println!("\nWhat a byte more costs when sealing, times what it costs at the largest size:\n");
-    growth::print();
-
-    captures();
 }
 
 fn calls() {
@@ -96,6 +72,11 @@ fn calls() {
 }
 
 fn grain128a_calls() {
+    println!(
+        "\nGrain-128a, with a tag of {} bits and without one. The yardstick of sealing, opening and crypt is",
+        grain128a::TAG_BITS
+    );
+    println!("its own sealing, opening and crypt with Grain-128a:");
     for size in MESSAGE_LENS {
         row("sealing, bytes", size, &mut grain128a::sealing(size));
     }
@@ -104,6 +85,10 @@ fn grain128a_calls() {
     }
     for size in MESSAGE_LENS {
         row("crypt, bytes", size, &mut grain128a::crypt(size));
+    }
+    println!("\nCrypt beside the yardstick's sealing of the same message with Grain-128a:");
+    for size in MESSAGE_LENS {
+        row("crypt, bytes", size, &mut grain128a::crypt_to_sealing(size));
     }
 }
 
@@ -140,6 +125,7 @@ fn engines() {
 }
 
 fn editions() {
+    println!("\nThe second edition's speed as a part of the first's, both by the archive:");
     for size in MESSAGE_LENS {
         let mut pair = jobs::sealing_second_to_first(size);
         row("sealing, bytes", size, &mut pair);
@@ -151,6 +137,10 @@ fn editions() {
 }
 
 fn streams() {
+    println!(
+        "\nThe speed in pieces of so many bytes as a part of the whole-string call's, both by the archive,"
+    );
+    println!("at {} bytes; checking beside opening:", 32 * KIB);
     for (edition, sealing, checking) in [
         (1, "sealing, bytes", "checking, bytes"),
         (2, "sealing, edition 2, bytes", "checking, edition 2, bytes"),
@@ -164,4 +154,16 @@ fn streams() {
             row(checking, size, &mut pair);
         }
     }
+}
+
+fn opening_to_sealing() {
+    println!(
+        "\nOpening's speed as a part of sealing's, at {} bytes:",
+        32 * KIB
+    );
+    println!(
+        "{:<34} {:>8.2}",
+        "best rounds",
+        jobs::opening_to_sealing(32 * KIB)
+    );
 }
