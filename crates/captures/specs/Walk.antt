@@ -9,6 +9,7 @@ use Rattle.refusals.specs.declared.Refusal.the-variants.{BrokenCapture, TooDeep
 use Rattle.captures.specs.Layout.{captureLimit, depthLimit, part, entryCount, headSize, kindAt, sizeAt, headSound, isFrame}
 use Rattle.captures.specs.Content.{Content, none, frame, group}
 
+-- What a walk finds: its first break, or a content.
 pub data Walked : Type 0 where
   broken : Refusal → Walked
   sound : Content → Walked
@@ -39,5 +40,6 @@ walkSection zero s = broken TooDeep
 walkSection (suc levels) s =
     cond (headSound s) (walkBodies (walkSection levels) (entryCount s) 0 (headSize (entryCount s)) s) (broken BrokenCapture)
 
+-- A capture: not too long, and a section with all levels.
 unfoldable pub walkCapture : List ℕ → Walked
 walkCapture s = cond (ltb captureLimit (length s)) (broken BrokenCapture) (walkSection depthLimit s)
