@@ -1,10 +1,10 @@
--- Refusals: their numbers, rows, and the first row that applies (document 01, "When the box says no"; numbers 8 to 20 and 23, document 02, C-11, C-13, C-16, C-18, C-19 and C-20).
+-- Refusals: their numbers, rows, and the first row that applies (document 01, "When the box says no"; numbers 8 to 23, document 02, C-11, C-13, C-16, C-18, C-19, C-20 and C-22).
 use mathlib.Core.Bool.{Bool, false, cond}
 use mathlib.Core.List.{List, [], _∷_}
 use Prim.Native.Nat.{ℕ}
 use lib.Dec.{eqb}
 use Rattle.refusals.specs.declared.Refusal.{Refusal}
-use Rattle.refusals.specs.declared.Refusal.the-variants.{KeySize, NonceSize, AdTooLong, MessageTooLong, SealedTooShort, OutputTooShort, TagDiffers, IdentifierTooLarge, FrameMessageTooLong, NotCodedLength, WrongMessageLength, FillerNotZero, OutOfTurn, UnsoundState, BlankKey, BrokenCapture, PastLastFrame, TooDeep, NonceMode, TagLength, UnknownEdition}
+use Rattle.refusals.specs.declared.Refusal.the-variants.{KeySize, NonceSize, AdTooLong, MessageTooLong, SealedTooShort, OutputTooShort, TagDiffers, IdentifierTooLarge, FrameMessageTooLong, NotCodedLength, WrongMessageLength, FillerNotZero, OutOfTurn, UnsoundState, BlankKey, BrokenCapture, PastLastFrame, TooDeep, NonceMode, TagLength, SignalPlace, SignalNumbers, UnknownEdition}
 use Rattle.refusals.specs.declared.Check.{Check}
 use Rattle.refusals.specs.declared.Check.the-variants.{Passed, Failed}
 
@@ -29,6 +29,8 @@ number PastLastFrame = 17
 number TooDeep = 18
 number NonceMode = 19
 number TagLength = 20
+number SignalPlace = 21
+number SignalNumbers = 22
 number UnknownEdition = 23
 
 -- A row of a call: a refusal, and whether it applies.

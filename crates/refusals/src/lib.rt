@@ -25,6 +25,8 @@ pub enum Refusal {
     TooDeep,
     NonceMode,
     TagLength,
+    SignalPlace,
+    SignalNumbers,
     UnknownEdition,
 }
 
@@ -65,6 +67,8 @@ pub fn number(r: Refusal) -> u8
         Refusal::TooDeep => 18,
         Refusal::NonceMode => 19,
         Refusal::TagLength => 20,
+        Refusal::SignalPlace => 21,
+        Refusal::SignalNumbers => 22,
         Refusal::UnknownEdition => 23,
     }
 }
