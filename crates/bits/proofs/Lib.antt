@@ -13,3 +13,4 @@ pub mod Moved
 pub mod Written
 pub mod Slides
 pub mod Turned
+pub mod Parts
