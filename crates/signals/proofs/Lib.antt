@@ -1,0 +1,13 @@
+pub mod Placed
+pub mod Shifted
+pub mod Field
+pub mod Difference
+pub mod Complement
+pub mod ReadBack
+pub mod Usable
+pub mod Comparing
+pub mod Judged
+pub mod Told
+pub mod Decoding
+pub mod Decodes
+pub mod Fits
