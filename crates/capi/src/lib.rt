@@ -4,6 +4,7 @@ pub mod codes;
 pub mod framing;
 pub mod grain_128a;
 pub mod grain_v1;
+pub mod signalling;
 pub mod streaming;
 
 ghost use mathlib.Core.Path.{_≡_};
