@@ -1,6 +1,6 @@
 //! An independent implementation of documents 01 and 02, of both editions, of Grain-128a and of
 //! Grain v1: a byte for each register bit, and every bit moved at every clock. Of captures, a reader
-//! and a writer.
+//! and a writer. Of signals, a reader that goes bit by bit.
 
 #[path = "model/capture_writer.rs"]
 pub mod capture_writer;
@@ -14,6 +14,8 @@ pub mod full_capture;
 pub mod grain128a;
 #[path = "model/grainv1.rs"]
 pub mod grainv1;
+#[path = "model/signals.rs"]
+pub mod signals;
 #[path = "model/streams.rs"]
 pub mod streams;
 
