@@ -44,7 +44,7 @@ $(OUT):
 	mkdir -p $@
 
 # The archive depends on the files that are proved and on their folders, so that a removed file counts too.
-VERIFIED := bits key lengths refusals tagged untagged length_codes captures generators preoutput strokes authenticator machine startup strings payload checks frame_checks mode_checks limits grain128aead grain128a grainv1 named_edition frames named_frames stream_checks stream_state streams capi
+VERIFIED := bits key lengths refusals tagged untagged length_codes captures generators preoutput strokes authenticator machine startup strings payload checks frame_checks mode_checks limits grain128aead grain128a grainv1 named_edition frames named_frames stream_checks stream_state streams signals capi
 PROVED := $(shell find $(foreach crate,$(VERIFIED),$(wildcard $(addprefix crates/$(crate)/,src specs proofs))))
 
 build/libtikhoplav.a: crates.txt $(PROVED) | $(OUT)
@@ -57,7 +57,7 @@ SHARED := $(OUT)/libtikhoplav.rlib
 MODEL := $(OUT)/libmodel.rlib
 EXTERNS := --extern tikhoplav=$(SHARED) --extern model=$(MODEL)
 
-$(SHARED): cli/lib.rs $(addprefix cli/,$(addsuffix .rs,archive capture_vectors captures frames grain128a grain128a_vectors grainv1 grainv1_vectors hex pieces sizes vectors)) cli/capture.hex build/libtikhoplav.a
+$(SHARED): cli/lib.rs $(addprefix cli/,$(addsuffix .rs,archive capture_vectors captures frames grain128a grain128a_vectors grainv1 grainv1_vectors hex pieces signal_vectors signals sizes vectors)) cli/capture.hex build/libtikhoplav.a
 	$(RUST) --crate-type rlib --crate-name tikhoplav -L native=build -o $@ $<
 
 build/tikhoplav: cli/main.rs $(wildcard cli/*.rs) cli/help.txt include/tikhoplav.h $(SHARED)

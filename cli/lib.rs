@@ -10,5 +10,7 @@ pub mod grainv1;
 pub mod grainv1_vectors;
 pub mod hex;
 pub mod pieces;
+pub mod signal_vectors;
+pub mod signals;
 pub mod sizes;
 pub mod vectors;

@@ -20,6 +20,7 @@ pub const CAPTURE_ENTRIES_MAX: usize = 255;
 pub const CAPTURE_CODE_AT: usize = 4;
 pub const CAPTURE_NONCE_AT: usize = 5;
 pub const CAPTURE_DATA_AT: usize = 17;
+pub const SIGNAL_WIDTH_MAX: u32 = 32;
 
 /// The bytes that a tag of Grain-128a takes.
 pub const fn grain128a_tag_size(tag_bits: u32) -> usize {
