@@ -1,5 +1,5 @@
 //! The archive beside the independent implementation, on seeded random inputs of both editions, of
-//! Grain-128a and of Grain v1, and on captures.
+//! Grain-128a and of Grain v1, on captures and on signals.
 
 mod ad_lengths;
 mod captures;
@@ -17,6 +17,7 @@ mod outputs;
 mod parts;
 mod random;
 mod registers;
+mod signals;
 mod sizes;
 mod streams;
 mod trial;
@@ -104,6 +105,8 @@ fn run(seed: u64) -> Result<usize, String> {
     total += run_groups(&grainv1::GROUPS, 1, seed)?;
     println!("captures");
     total += run_groups(&captures::GROUPS, 1, seed)?;
+    println!("signals");
+    total += run_groups(&signals::GROUPS, 1, seed)?;
     Ok(total)
 }
 
