@@ -1,8 +1,8 @@
 /*
  * Tikhoplav: Grain-128AEAD, both editions. Sealing and opening of whole byte strings; the two parts of a sealed one;
- * sealed CAN FD frames, captures of frames, and payloads that arrive in pieces, each with a section of its own below.
- * Grain-128a, with and without authentication, and Grain v1, which is for reading old tags only, have the last two
- * sections, which say all that is different there.
+ * sealed CAN FD frames, captures of frames, signals in opened messages, and payloads that arrive in pieces, each with a
+ * section of its own below. Grain-128a, with and without authentication, and Grain v1, which is for reading old tags
+ * only, have the last two sections, which say all that is different there.
  *
  * Sealing enciphers a message under a key and a nonce, and appends a tag over the message and its associated data
  * (AD). Opening recomputes the tag, and hands out the message only if the tag is right. The AD is authenticated and
@@ -54,6 +54,7 @@
  * What the caller owes
  *
  *   - Each pointer leads to as many bytes as the length after it says: readable, and for `out` and `state` writable.
+ *     (`value_bits`, of the call on signals, leads to one number.)
  *   - `out` overlaps none of the call's inputs, and `state` none of the call's other buffers. (The inputs are only
  *     read, and may overlap one another.)
  *   - A nonce is never used for two sealings under one key. If it is, secrecy is lost, and no call can notice it.
@@ -82,6 +83,9 @@
  *
  *   The calls on captures: a count of frames, a place in the capture or a length, 0 or more, or a refusal. They write
  *   nothing.
+ *
+ *   The call on signals: a number from 1 to 4, which says how the value lies to its limits, or a refusal, and then
+ *   *value_bits is as it was before the call.
  *
  * The length of the AD, and payloads of earlier versions
  *
@@ -117,6 +121,8 @@
  *   Versions before 3.7.0 have no captures. The frames in one are frames like any other: those versions read them, from
  *   3.3.0 on.
  *
+ *   Versions before 3.8.0 have no signals.
+ *
  * What is not promised
  *
  *   How long a call takes. It grows with the lengths, and opening goes over the ciphertext twice; the tag is made by
@@ -151,7 +157,7 @@
 extern "C" {
 #endif
 
-#define TIKHOPLAV_VERSION "3.7.0"
+#define TIKHOPLAV_VERSION "3.8.0"
 
 /* The editions: Grain-128AEAD and Grain-128AEADv2. */
 #define TIKHOPLAV_EDITION_1 1
@@ -173,10 +179,10 @@ extern "C" {
  * applies is the answer: a call with a short key and a long nonce answers -1, one with a blank key and too long an AD
  * answers -15, and an output that is too short answers -6 even where the tag is wrong too. An unknown edition answers
  * -23 whatever else is wrong. Making and reading a frame have some of these too, and five of their own; the calls on
- * captures have none of these, and three of their own; the calls on streams have some, and two of their own; the calls
- * of Grain-128a have some, with the sizes of its own tags, and two of their own; that of Grain v1 has four of these,
- * with the sizes of its own key and nonce. The sections on frames, on captures, on streams, on Grain-128a and on Grain
- * v1 have theirs, in the order of their checks.
+ * captures have none of these, and three of their own; the call on signals has none of these, and two of its own; the
+ * calls on streams have some, and two of their own; the calls of Grain-128a have some, with the sizes of its own tags,
+ * and two of their own; that of Grain v1 has four of these, with the sizes of its own key and nonce. The sections on
+ * frames, on captures, on signals, on streams, on Grain-128a and on Grain v1 have theirs, in the order of their checks.
  */
 
 /* The calls that name an edition only: it is neither TIKHOPLAV_EDITION_1 nor TIKHOPLAV_EDITION_2. */
@@ -641,6 +647,138 @@ int64_t tikhoplav_capture_frame(const uint8_t *capture, size_t capture_len, uint
  * It refuses what tikhoplav_capture_frame refuses, with the same answer.
  */
 int64_t tikhoplav_capture_frame_size(const uint8_t *capture, size_t capture_len, uint64_t number);
+
+/*
+ * Signals
+ *
+ *   A signal is a physical value that stands in a message, such as a speed or a temperature: a few bits of the message
+ *   are a number, raw, and a scale and an offset make the value of it. The call gives the value of one signal, and
+ *   tells how it lies to two limits. It takes no key: the message is one that opening or reading handed out.
+ *
+ * Where a signal lies, and what it is worth
+ *
+ *     start       its first bit. Bit 0 is the top bit of the first byte, bit 7 the lowest, bit 8 the top bit of the
+ *                 second byte, and so on
+ *     width       how many bits it has, 1 to TIKHOPLAV_SIGNAL_WIDTH_MAX, 32. The first one is the highest, the last one
+ *                 counts for 1
+ *     is_signed   0: raw is 0 to 2^width - 1. Anything else: raw is -2^(width - 1) to 2^(width - 1) - 1, by two's
+ *                 complement
+ *     scale       value = raw * scale + offset
+ *     offset
+ *     low         the limits of the value
+ *     high
+ *
+ *   The bits may begin and end anywhere in a byte. All that is around them is passed over.
+ *
+ *   Numbers and value are doubles as IEEE 754 has them (binary64). raw becomes a double exactly. The product is rounded
+ *   once, and then the sum is rounded once, each to the nearest double, and of two that are equally near to the one
+ *   whose last bit is 0. There is no fused multiply-add: 3 * 0.1 - 0.3 is 2^-54, and not 2^-55. So the value is settled
+ *   to its last bit.
+ *
+ *   So the byte ff, as a signal of width 8 with a sign, is raw -1; with scale 0.5 and offset 10 its value is 9.5.
+ *
+ *   CAN databases (DBC) have such signals as big-endian or Motorola ones, and count the bits of a byte from the lowest
+ *   one up: start bit b there is start 8 * (b / 8) + 7 - b % 8 here. Their little-endian (Intel) signals are signals
+ *   here only where they lie in one byte.
+ *
+ * What the call answers
+ *
+ *     TIKHOPLAV_SIGNAL_BELOW        1   value < low
+ *     TIKHOPLAV_SIGNAL_WITHIN       2   low <= value <= high
+ *     TIKHOPLAV_SIGNAL_ABOVE        3   value > high
+ *     TIKHOPLAV_SIGNAL_NOT_FINITE   4   the product or the sum is beyond the largest double, so that the value is plus
+ *                                       or minus infinity, whatever the limits are
+ *
+ *   After each of these *value_bits has the bits of the value. memcpy makes a double of them:
+ *
+ *     double value;
+ *     memcpy(&value, value_bits, sizeof value);
+ *
+ *   The value is never a NaN. It may be minus zero, which is equal to zero, as a value and as a limit.
+ *
+ * What the call on signals refuses
+ *
+ *   The checks run in this order, and the first that applies is the answer. *value_bits is then as it was before the
+ *   call.
+ *
+ *     SIGNAL_PLACE     -21   width is 0 or over TIKHOPLAV_SIGNAL_WIDTH_MAX, or the signal doesn't lie in the message:
+ *                            start + width, a sum that doesn't wrap, is over 8 * message_len
+ *     SIGNAL_NUMBERS   -22   scale, offset, low or high is infinite or a NaN, or low > high
+ *
+ *   A message may have any length. In an empty one there is no signal.
+ *
+ * What the caller owes for signals
+ *
+ *   - message leads to message_len readable bytes, and value_bits to a uint64_t, aligned as one, that can be written to
+ *     and is no part of the message.
+ *   - The message was opened: sealing's tag, or the frame's, was found right. Of a message that nobody authenticated
+ *     the call gives values just as readily, and they say nothing about the car.
+ *   - Which bits are which signal, with which scale, offset and limits, is the caller's knowledge. It is no part of the
+ *     message, and no tag is over it: with another definition the same message has other values.
+ *   - The call computes with SSE2, in the floating-point environment that the caller is in. It has to be the one in
+ *     which a program starts: round to nearest, neither flush-to-zero nor denormals-are-zero, all exceptions masked. In
+ *     MXCSR that is 0x1f80, its six flags (0x3f) aside. fesetround, _MM_SET_FLUSH_ZERO_MODE and the like lead out of
+ *     it, and so does the start-up code of a program that is linked with -ffast-math. In any other environment nothing
+ *     is said about the value. The call may set flags of MXCSR, and leaves the rest of it alone.
+ *
+ * A whole program that reads a frame and gives the signal in it (a real key is random and secret)
+ *
+ *     #include <stdio.h>
+ *     #include <string.h>
+ *     #include <tikhoplav.h>
+ *
+ *     static const uint8_t key[TIKHOPLAV_KEY_SIZE] = "no real key", nonce[TIKHOPLAV_NONCE_SIZE] = "never twice";
+ *
+ *     int main(void)
+ *     {
+ *         static const uint8_t quarters[] = { 0x25, 0x80 }; // 9600 quarters of a revolution per minute
+ *         uint8_t data[TIKHOPLAV_FRAME_MAX], message[TIKHOPLAV_FRAME_MESSAGE_MAX];
+ *         uint64_t value_bits;
+ *         double value;
+ *         int64_t n = tikhoplav_frame_make(key, sizeof key, nonce, sizeof nonce, 0x7e8,
+ *                                          quarters, sizeof quarters, data, sizeof data);
+ *         if (n >= 0)
+ *             n = tikhoplav_frame_read(key, sizeof key, nonce, sizeof nonce, 0x7e8,
+ *                                      (uint32_t)tikhoplav_length_code((size_t)n), data, (size_t)n,
+ *                                      message, sizeof message);
+ *         if (n >= 0) // the first 16 bits, without a sign, times 0.25, plus 0; from 0 to 8000
+ *             n = tikhoplav_signal(message, (size_t)n, 0, 16, 0, 0.25, 0.0, 0.0, 8000.0, &value_bits);
+ *         if (n < 0)
+ *             return (int)-n;
+ *         memcpy(&value, &value_bits, sizeof value);
+ *         printf("%g rpm%s\n", value, n == TIKHOPLAV_SIGNAL_WITHIN ? "" : ", which is not credible");
+ *         return 0;
+ *     }
+ */
+
+/* The most bits of a signal. */
+#define TIKHOPLAV_SIGNAL_WIDTH_MAX 32
+
+/* How the value of a signal lies to its limits. */
+#define TIKHOPLAV_SIGNAL_BELOW 1
+#define TIKHOPLAV_SIGNAL_WITHIN 2
+#define TIKHOPLAV_SIGNAL_ABOVE 3
+#define TIKHOPLAV_SIGNAL_NOT_FINITE 4
+
+/* width is not 1 to TIKHOPLAV_SIGNAL_WIDTH_MAX, or the signal ends behind the message. */
+#define TIKHOPLAV_REFUSED_SIGNAL_PLACE (-21)
+
+/* One of scale, offset, low and high is not finite, or low is above high. */
+#define TIKHOPLAV_REFUSED_SIGNAL_NUMBERS (-22)
+
+/*
+ * Gives the signal of message[0 .. message_len - 1] that has width bits from bit start on, as a value: raw times scale,
+ * rounded, plus offset, rounded.
+ *
+ * Writes the bits of the value to *value_bits, and answers TIKHOPLAV_SIGNAL_BELOW, TIKHOPLAV_SIGNAL_WITHIN,
+ * TIKHOPLAV_SIGNAL_ABOVE or TIKHOPLAV_SIGNAL_NOT_FINITE. Whenever the signal lies in the message, the four numbers are
+ * finite and low is not above high, it succeeds.
+ *
+ * Otherwise it answers the first of these that applies, and writes nothing:
+ * SIGNAL_PLACE, SIGNAL_NUMBERS.
+ */
+int64_t tikhoplav_signal(const uint8_t *message, size_t message_len, uint32_t start, uint32_t width, uint32_t is_signed,
+                         double scale, double offset, double low, double high, uint64_t *value_bits);
 
 /*
  * Payloads that arrive in pieces

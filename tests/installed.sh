@@ -29,6 +29,7 @@ example() { # HEADING: the program that stands below it in the header builds and
 example 'Example: a whole program'
 example 'A whole program that makes and reads a frame'
 example 'A whole program that opens all frames of a capture'
+example 'A whole program that reads a frame and gives the signal in it'
 example 'A whole program that seals and checks in pieces'
 example 'A whole program that seals and opens with Grain-128a'
 example 'A whole program that enciphers and deciphers with Grain v1'
