@@ -4,6 +4,8 @@ use std::fmt;
 
 pub enum Value {
     Number(usize),
+    /// `null` where it is not finite, which no number of JSON is.
+    Double(f64),
     Text(String),
     Object(Vec<(&'static str, Value)>),
     /// Each on a line of its own.
@@ -14,6 +16,8 @@ impl fmt::Display for Value {
     fn fmt(&self, f: &mut fmt::Formatter) -> fmt::Result {
         match self {
             Value::Number(number) => write!(f, "{number}"),
+            Value::Double(double) if double.is_finite() => write!(f, "{double:?}"),
+            Value::Double(_) => f.write_str("null"),
             Value::Text(text) => f.write_str(&quoted(text)),
             Value::Object(members) => {
                 let members: Vec<String> = members

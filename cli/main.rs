@@ -8,10 +8,13 @@ mod capture_checks;
 mod captured;
 mod check;
 mod crypt;
+mod decoded;
+mod definition;
 mod failure;
 mod frame;
 mod frame_checks;
 mod frame_job;
+mod frame_signals;
 mod grain128a_checks;
 mod grainv1_checks;
 mod inputs;
@@ -23,10 +26,14 @@ mod opened;
 mod options;
 mod output;
 mod parts;
+mod real;
 mod refusal;
 mod sealed_pieces;
 mod sealing;
 mod selftest;
+mod signal;
+mod signal_checks;
+mod signal_table;
 mod stream_checks;
 mod stream_job;
 mod streams;
@@ -39,7 +46,7 @@ use tikhoplav::archive::Call;
 use tikhoplav::sizes::{AD_MAX, FRAME_MESSAGE_MAX, GRAIN128A_TAG_BITS_MAX};
 use tikhoplav::sizes::{CAPTURE_DEPTH_MAX, CAPTURE_ENTRIES_MAX, CAPTURE_MAX};
 use tikhoplav::sizes::{GRAINV1_KEY_SIZE, GRAINV1_NONCE_SIZE};
-use tikhoplav::sizes::{IDENTIFIER_MAX, MESSAGE_MAX, SEALED_MAX};
+use tikhoplav::sizes::{IDENTIFIER_MAX, MESSAGE_MAX, SEALED_MAX, SIGNAL_WIDTH_MAX};
 
 const VERSION: &str = concat!("tikhoplav ", env!("TIKHOPLAV_VERSION"), "\n");
 
@@ -59,6 +66,8 @@ fn help() -> String {
         ENTRIES_MAX = CAPTURE_ENTRIES_MAX,
         DEPTH_MAX = CAPTURE_DEPTH_MAX,
         TOO_DEEP = CAPTURE_DEPTH_MAX + 1,
+        WIDTH_MAX = SIGNAL_WIDTH_MAX,
+        FRAME_BITS_LAST = 8 * FRAME_MESSAGE_MAX - 1,
         PIECE = streams::PIECE
     )
 }
@@ -85,6 +94,7 @@ fn run(arguments: &[OsString]) -> Result<(), Failure> {
         Some("check") => with_options(&options::CHECK, rest, check::run),
         Some("frame") => frame(rest),
         Some("capture") => capture(rest),
+        Some("signal") => with_options(&options::SIGNAL, rest, signal::run),
         Some("parts") => with_options(&options::PARTS, rest, parts::run),
         Some("selftest") => alone(rest).and_then(|()| selftest::run()),
         Some("--help" | "-h" | "help") => streams::write_stdout(help().as_bytes()),

@@ -1,4 +1,4 @@
-//! Numbers that options give.
+//! Numbers that options and files give.
 
 use crate::failure::Failure;
 use crate::options::Options;
@@ -10,27 +10,31 @@ pub struct Number(String);
 impl Number {
     /// The number of an option, or the other one where the option is not given.
     pub fn read(options: &Options, option: &str, otherwise: u32) -> Result<Number, Failure> {
-        let Some(value) = options.value(option) else {
-            return Ok(Number(otherwise.to_string()));
-        };
-        match value.to_str() {
-            Some(text) if is_number(text) => Ok(Number(text.to_string())),
-            _ => Err(Failure::Usage(format!(
-                "{option}: '{}' is no number in decimal digits",
-                value.display()
-            ))),
+        match options.value(option) {
+            None => Ok(Number(otherwise.to_string())),
+            Some(value) => Number::parse(&value.to_string_lossy())
+                .map_err(|what| Failure::Usage(format!("{option}: {what}"))),
         }
+    }
+
+    /// The error says what is wrong with the text.
+    pub fn parse(text: &str) -> Result<Number, String> {
+        if text.is_empty() || !text.bytes().all(|byte| byte.is_ascii_digit()) {
+            return Err(format!("'{text}' is no number in decimal digits"));
+        }
+        Ok(Number(text.to_string()))
     }
 
     /// The number for the call. One that is too large for it goes as the largest, which no call
     /// takes either.
     pub fn value(&self) -> u32 {
-        self.0.parse().unwrap_or(u32::MAX)
+        self.exact().unwrap_or(u32::MAX)
     }
-}
 
-fn is_number(text: &str) -> bool {
-    !text.is_empty() && text.bytes().all(|byte| byte.is_ascii_digit())
+    /// None where the number is too large for a call.
+    pub fn exact(&self) -> Option<u32> {
+        self.0.parse().ok()
+    }
 }
 
 impl fmt::Display for Number {

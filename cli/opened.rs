@@ -2,11 +2,13 @@
 
 use crate::captured::{word, Captured};
 use crate::failure::{accepted, Failure};
+use crate::frame_signals::{self, FrameSignal};
 use crate::inputs::Cipher;
 use crate::json::Value;
 use crate::notation::Frame;
 use crate::output;
 use crate::refusal;
+use crate::signal_table::Table;
 use tikhoplav::sizes::FRAME_MESSAGE_MAX;
 use tikhoplav::{frames, hex};
 
@@ -17,6 +19,8 @@ const NO_MESSAGE_LENGTH: i64 = -11;
 pub struct Opened<'a> {
     frame: &'a Captured<'a>,
     message: Result<Vec<u8>, (u8, String)>,
+    /// Those of an opened frame, where a table of signals is given.
+    signals: Option<Vec<FrameSignal<'a>>>,
 }
 
 /// Has the archive judge edition and key, whatever frames there are: on a data field without M,
@@ -31,7 +35,11 @@ pub fn judge(cipher: &Cipher) -> Result<(), Failure> {
 }
 
 /// Opens the frame with its own identifier, code, nonce and data.
-pub fn open<'a>(cipher: &mut Cipher, captured: &'a Captured) -> Opened<'a> {
+pub fn open<'a>(
+    cipher: &mut Cipher,
+    captured: &'a Captured,
+    table: Option<&'a Table>,
+) -> Opened<'a> {
     cipher.secrets.nonce = captured.nonce.to_vec();
     let frame = Frame {
         identifier: captured.identifier,
@@ -49,13 +57,19 @@ pub fn open<'a>(cipher: &mut Cipher, captured: &'a Captured) -> Opened<'a> {
         &mut out,
     );
     let sentence = |number| refusal::of_reading(cipher, &frame, number);
+    let message = match output::written(answer, out, sentence) {
+        Ok(message) => Ok(message),
+        Err(Failure::Refusal(number, why)) => Err((number, why)),
+        Err(_) => unreachable!("the archive answers or refuses"),
+    };
+    let signals = message.as_ref().ok().zip(table).map(|(message, table)| {
+        let identifier = captured.identifier.number;
+        frame_signals::of(table, identifier, message)
+    });
     Opened {
         frame: captured,
-        message: match output::written(answer, out, sentence) {
-            Ok(message) => Ok(message),
-            Err(Failure::Refusal(number, why)) => Err((number, why)),
-            Err(_) => unreachable!("the archive answers or refuses"),
-        },
+        message,
+        signals,
     }
 }
 
@@ -64,18 +78,29 @@ impl Opened<'_> {
         self.message.is_ok()
     }
 
-    /// The refusal, under the number of its frame.
+    /// The refusal of the frame, or the first of a signal of it, under the number of the frame.
     pub fn refusal(&self) -> Option<Failure> {
-        let (number, why) = self.message.as_ref().err()?;
+        let (number, why) = match &self.message {
+            Err((number, why)) => (*number, why.clone()),
+            Ok(_) => self.signals().iter().find_map(FrameSignal::refusal)?,
+        };
         let why = format!("frame {}: {why}", self.frame.number);
-        Some(Failure::Refusal(*number, why))
+        Some(Failure::Refusal(number, why))
     }
 
-    /// As a line of `capture open`.
-    pub fn line(&self) -> String {
+    /// None where it is refused, or where no table of signals is given.
+    pub fn signals(&self) -> &[FrameSignal<'_>] {
+        self.signals.as_deref().unwrap_or_default()
+    }
+
+    /// As a line of `capture open`, and one for each signal.
+    pub fn lines(&self) -> String {
         let name = self.frame.name();
         match &self.message {
-            Ok(message) => format!("{name} opened {}\n", word(message)),
+            Ok(message) => {
+                let signals: String = self.signals().iter().map(FrameSignal::line).collect();
+                format!("{name} opened {}\n{signals}", word(message))
+            }
             Err((number, why)) => format!("{name} refusal {number}: {why}\n"),
         }
     }
@@ -89,6 +114,10 @@ impl Opened<'_> {
                 ("refusal", Value::Number(usize::from(*number))),
                 ("reason", Value::Text(why.clone())),
             ]),
+        }
+        if let Some(signals) = &self.signals {
+            let objects = signals.iter().map(FrameSignal::object).collect();
+            members.push(("signals", Value::List(objects)));
         }
         Value::Object(members)
     }

@@ -82,14 +82,14 @@ pub const PARTS: Known = Known {
 pub const CAPTURE_LIST: Known = Known {
     with_value: &[],
     alone: &["--json", "--hex-in", "--help"],
-    elsewhere: &[],
+    elsewhere: &[("--signals", "capture list opens no frame")],
     file: true,
 };
 
 const OWN_NONCES: &str = "each frame of a capture has its own nonce";
 
 pub const CAPTURE_OPEN: Known = Known {
-    with_value: &[&["--key", "--key-file", "--edition"]],
+    with_value: &[&["--key", "--key-file", "--edition", "--signals"]],
     alone: &["--json", "--hex-in", "--help"],
     elsewhere: &[
         ("--nonce", OWN_NONCES),
@@ -98,6 +98,23 @@ pub const CAPTURE_OPEN: Known = Known {
         ("--tag-bits", FRAMES_ALONE),
     ],
     file: true,
+};
+
+const NO_KEY: &str = "signal takes a message that is opened already";
+
+pub const SIGNAL: Known = Known {
+    with_value: &[
+        &["--start", "--width", "--scale", "--offset"],
+        &["--low", "--high", "--in"],
+    ],
+    alone: &["--signed", "--json", "--hex-in", "--help"],
+    elsewhere: &[
+        ("--key", NO_KEY),
+        ("--key-file", NO_KEY),
+        ("--nonce", NO_KEY),
+        ("--nonce-file", NO_KEY),
+    ],
+    file: false,
 };
 
 #[derive(Default)]

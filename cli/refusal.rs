@@ -1,5 +1,6 @@
 //! A refusal in words.
 
+use crate::definition::Definition;
 use crate::inputs::{Cipher, Inputs, Secrets, Tagged};
 use crate::notation::{Frame, Identifier};
 use tikhoplav::archive::Call;
@@ -8,7 +9,7 @@ use tikhoplav::sizes::{grain128a_tag_size, GRAIN128A_TAG_BITS_MAX};
 use tikhoplav::sizes::{AD_MAX, FRAME_MESSAGE_MAX, IDENTIFIER_MAX, KEY_SIZE};
 use tikhoplav::sizes::{CAPTURE_DEPTH_MAX, CAPTURE_MAX};
 use tikhoplav::sizes::{GRAINV1_KEY_SIZE, GRAINV1_NONCE_SIZE};
-use tikhoplav::sizes::{MESSAGE_MAX, NONCE_SIZE, SEALED_MAX, TAG_SIZE};
+use tikhoplav::sizes::{MESSAGE_MAX, NONCE_SIZE, SEALED_MAX, SIGNAL_WIDTH_MAX, TAG_SIZE};
 
 /// The count of entries that a section begins with.
 const COUNT_SIZE: usize = 2;
@@ -183,6 +184,45 @@ pub fn of_capture(capture: &[u8], number: u8) -> String {
             CAPTURE_DEPTH_MAX + 1
         ),
         _ => unreachable!("the header names no such refusal {number}"),
+    }
+}
+
+/// What is wrong with a signal. `room` says how many bits the message has.
+pub fn of_signal(signal: &Definition, room: &str, number: u8) -> String {
+    match number {
+        21 if !(1..=SIGNAL_WIDTH_MAX).contains(&signal.width.value()) => format!(
+            "the width is {}, and must be 1 to {SIGNAL_WIDTH_MAX}",
+            signal.width
+        ),
+        21 => {
+            let end = u64::from(signal.start) + u64::from(signal.width.value());
+            format!(
+                "the signal ends with bit {}, counted from 0, and {room} bits",
+                end - 1
+            )
+        }
+        22 => wrong_numbers(signal),
+        _ => unreachable!("the header names no such refusal {number}"),
+    }
+}
+
+fn wrong_numbers(signal: &Definition) -> String {
+    let Definition {
+        scale,
+        offset,
+        low,
+        high,
+        ..
+    } = signal;
+    let named = [
+        ("scale", scale),
+        ("offset", offset),
+        ("low limit", low),
+        ("high limit", high),
+    ];
+    match named.iter().find(|(_, real)| !real.value.is_finite()) {
+        Some((name, real)) => format!("the {name} is {real}, which is no finite double"),
+        None => format!("the low limit is {low}, above the high limit, {high}"),
     }
 }
 

@@ -6,6 +6,7 @@ use crate::frame_checks;
 use crate::grain128a_checks;
 use crate::grainv1_checks;
 use crate::job::Job;
+use crate::signal_checks;
 use crate::stream_checks;
 use crate::streams;
 use tikhoplav::hex;
@@ -65,6 +66,7 @@ pub fn run() -> Result<(), Failure> {
         (stream_checks::HEADING, stream_checks::all()),
         (frame_checks::HEADING, frame_checks::all()),
         (capture_checks::HEADING, capture_checks::all()),
+        (signal_checks::HEADING, signal_checks::all()),
         (grain128a_checks::HEADING, grain128a_checks::all()),
         (grainv1_checks::HEADING, grainv1_checks::all()),
     ];

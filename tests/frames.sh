@@ -373,7 +373,7 @@ help_of_frames() {
   said="not authenticated: the flags, and whether the identifier is written with three digits or eight"
   check "--help says what is not authenticated" grep -q "$said" <(paste -sd ' ' help)
   order=$(sed -n '/in this order:$/,/^  64/s/^        \([0-9][0-9]*\) .*/\1/p' help | paste -sd ' ')
-  check "--help has the order of the refusals" [ "$order" = "23 1 2 15 19 20 3 14 13 4 5 16 18 17 8 9 10 11 12 6 7" ]
+  check "--help has the order of the refusals" [ "$order" = "23 1 2 15 19 20 3 14 13 4 5 16 18 17 8 9 10 11 12 6 7 21 22" ]
   for command in "" make read; do
     run 0 frame ${command:+"$command"} --help
     check "frame $command --help" cmp help output

@@ -331,13 +331,16 @@ help_and_selftest() {
   check "the examples of a capture" cmp <(grep -A 2 '^0 10 000007E8 9' shown) <(printf '%s\n' \
     '0 10 000007E8 9 000000000000000000000003 0206929de3fbcb4c983cc600' '0 10 000007E8 opened 0960' \
     '1 frame, 1 opened, 0 refused')
+  check "the example of a signal" grep -qx "9.5 within" shown
+  check "the example of a capture with signals" cmp <(grep -A 1 '^  engine_speed' shown) <(printf '%s\n' \
+    '  engine_speed 2400.0 rpm within' '1 frame, 1 opened, 0 refused; 1 signal, 0 refused')
   check "the examples of a frame" [ "$(sed -n '/##/{N;p;}' shown)" = $'7E8##10206929DE3FBCB4C983CC600\n0960' ]
   run 0 parts --in log.sealed
   check "the example of the parts" cmp output <(tail -n 2 shown)
   run 0 --version
   check "--version" [ "$(cat output)" = "tikhoplav $version" ]
   run 0 selftest
-  check "selftest" [ "$(tail -n 1 output)" = "237 passed, 0 failed" ]
+  check "selftest" [ "$(tail -n 1 output)" = "255 passed, 0 failed" ]
   check "selftest says which published vector it leaves out" grep -q "^  Published vector 1 is under this key" output
 }
 
