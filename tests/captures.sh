@@ -19,20 +19,6 @@ wrong_tag() { # OTHER: what is said of a wrong tag, where the other edition is t
   echo "$said is not as it was sealed, or it was sealed under edition $1 (--edition $1)"
 }
 
-section() { # [KIND:BODY]...: a section of these bodies, in hex
-  local item body entry entries='' bodies='' offset=$((2 + 8 * $#))
-  for item; do
-    body=${item#*:}
-    printf -v entry '%02x%06x%08x' "${item%%:*}" $((${#body} / 2)) "$offset"
-    entries+=$entry bodies+=$body offset=$((offset + ${#body} / 2))
-  done
-  printf '%04x%s%s' $# "$entries" "$bodies"
-}
-
-frame() { # IDENTIFIER CODE DATA [NONCE]: a frame's body
-  printf '%08x%02x%s%s' "$1" "$2" "${4:-$nonce}" "$3"
-}
-
 chain() { # DEPTH BODY: groups in one another, the section of this depth being BODY
   local depth body=$2
   for ((depth = $1; depth > 1; depth--)); do
@@ -114,13 +100,6 @@ the_stored() { # groups in groups, sealed frames and others
   check "the first refusal on standard error" [ "$(cat errors)" = "refusal 7: frame 2: $(wrong_tag 2)" ]
 }
 
-sealed() { # IDENTIFIER CODE MESSAGE: sets body to that of the frame that frame make makes
-  echo "$3" >input
-  run 0 frame make "${secrets[@]}" --id "$(printf '%08X' "$1")" --hex-in
-  body=$(cut -d '#' -f 3 output)
-  body=$(frame "$1" "$2" "${body:1}")
-}
-
 made_and_opened() { # what frame make makes, under each edition
   local body capture long short empty message number=0 refusals=() place
   message=$(printf '%02x' {0..54})
@@ -160,12 +139,6 @@ damaged_frames() { # the status is that of the first that is refused, and the ot
     "1 55 00000123 refusal 12: $said_12" "2 84 00000123 opened 0960" "3 frames, 1 opened, 2 refused" --key "$key"
   opens 11 "$(section "0:$(frame 0x123 8 "${zeros:0:16}")" "0:$whole")" "0 18 00000123 refusal 11: $said_11" \
     "1 43 00000123 opened 0960" "2 frames, 1 opened, 1 refused" --key "$key"
-}
-
-well_formed() { # the output is one JSON value: strings, numbers, objects and lists of them, reduced until one is left
-  local string='"([^"\\]|\\["\\/bfnrt]|\\u[0-9a-f]{4})*"'
-  [ "$(tr -d '\n' <output | sed -E "s/$string/s/g; s/(0|[1-9][0-9]*)/n/g; :again
-    s/\{\}|\{s:[snv](,s:[snv])*\}/v/g; s/\[\]|\[[snv](,[snv])*\]/v/g; tagain")" = v ]
 }
 
 json() {

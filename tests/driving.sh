@@ -74,3 +74,30 @@ fails_to() { # WHAT ARGUMENT...: input or output fails
 }
 
 bytes() { head -c "$1" /dev/zero; }
+
+section() { # [KIND:BODY]...: a section of a capture with these bodies, in hex
+  local item body entry entries='' bodies='' offset=$((2 + 8 * $#))
+  for item; do
+    body=${item#*:}
+    printf -v entry '%02x%06x%08x' "${item%%:*}" $((${#body} / 2)) "$offset"
+    entries+=$entry bodies+=$body offset=$((offset + ${#body} / 2))
+  done
+  printf '%04x%s%s' $# "$entries" "$bodies"
+}
+
+frame() { # IDENTIFIER CODE DATA [NONCE]: a frame's body in a capture
+  printf '%08x%02x%s%s' "$1" "$2" "${4:-$nonce}" "$3"
+}
+
+sealed() { # IDENTIFIER CODE MESSAGE: sets body to that of the frame that frame make makes
+  echo "$3" >input
+  run 0 frame make "${secrets[@]}" --id "$(printf '%08X' "$1")" --hex-in
+  body=$(cut -d '#' -f 3 output)
+  body=$(frame "$1" "$2" "${body:1}")
+}
+
+well_formed() { # the output is one JSON value: strings, numbers, objects and lists of them, reduced until one is left
+  local string='"([^"\\]|\\["\\/bfnrt]|\\u[0-9a-f]{4})*"' number='-?(0|[1-9][0-9]*)(\.[0-9]+)?(e[+-]?[0-9]+)?'
+  [ "$(tr -d '\n' <output | sed -E "s/$string/s/g; s/$number|null/n/g; :again
+    s/\{\}|\{s:[snv](,s:[snv])*\}/v/g; s/\[\]|\[[snv](,[snv])*\]/v/g; tagain")" = v ]
+}
