@@ -135,6 +135,8 @@ try-calls:
 	@tests/frames.sh build/tikhoplav include/tikhoplav.h
 	@echo '== the command-line tool on captures'
 	@tests/captures.sh build/tikhoplav include/tikhoplav.h
+	@echo '== the command-line tool on signals'
+	@tests/signals.sh build/tikhoplav include/tikhoplav.h
 	@echo '== the command-line tool with Grain-128a'
 	@tests/grain128a.sh build/tikhoplav include/tikhoplav.h
 	@echo '== the command-line tool with Grain v1'
