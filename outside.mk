@@ -82,7 +82,7 @@ WARNINGS := -Wall -Wextra -Wpedantic -Wshadow -Wconversion -Wsign-conversion -Wc
 C99 := $(CC) -std=c99 $(WARNINGS) -Wstrict-prototypes -Wmissing-prototypes -Wc++-compat -Iinclude
 CXX11 := $(CXX) -std=c++11 $(WARNINGS) -Iinclude -x c++
 SANITIZE := -O1 -g -fsanitize=address,undefined -fno-sanitize-recover=all
-PROGRAMS := calls frames captures streams grain128a grainv1
+PROGRAMS := calls frames captures signals streams grain128a grainv1
 TRIED := $(foreach program,$(PROGRAMS),$(addprefix $(OUT)/$(program)-,c c++ plain))
 
 $(TRIED): tests/checks.h tests/sections.h include/tikhoplav.h build/libtikhoplav.a
