@@ -1,5 +1,6 @@
 /* How much stack the calls take. They run on a stack that is filled with a pattern, and what they leave of it is
    counted. */
+#include <float.h>
 #include <stdio.h>
 #include <stdlib.h>
 #include <string.h>
@@ -26,10 +27,12 @@ static int64_t answer;
 /* What the next call on a stream is given: the edition, and the length of AD, piece, output or tag. What the next call
    of Grain-128a is given: the bits of the tag, and the length of message or sealed input. What the next one of Grain v1
    is given: the length of the message. What the next one on captures is given: the length of the capture, and a frame's
-   number. */
-static uint32_t edition, tag_bits;
+   number. What the next one on signals is given: the length of the message, start, width, sign, and a double that is
+   scale, offset and high limit, and minus the low one. */
+static uint32_t edition, tag_bits, start, width, is_signed;
 static size_t len;
-static uint64_t frame_number;
+static uint64_t frame_number, value_bits;
+static double real;
 
 static void no_call(void)
 {
@@ -350,6 +353,11 @@ static void capture_frame_size(void)
     answer = tikhoplav_capture_frame_size(capture, len, frame_number);
 }
 
+static void signal_of_a_message(void)
+{
+    answer = tikhoplav_signal(message, len, start, width, is_signed, real, real, -real, real, &value_bits);
+}
+
 typedef struct {
     void (*run)(void);
     int64_t expected;
@@ -570,6 +578,36 @@ static const capture_trial capture_trials[] = {
     { too_long, TIKHOPLAV_REFUSED_BROKEN_CAPTURE, 0 },
 };
 
+typedef struct {
+    size_t len;
+    uint32_t start, width, is_signed;
+    double real;
+    int64_t expected;
+} signal_trial;
+
+/* The message is zeros. */
+static const signal_trial signal_trials[] = {
+    { 0, 0, 1, 0, 1.0, TIKHOPLAV_REFUSED_SIGNAL_PLACE },
+    { 8, 0, 33, 0, 1.0, TIKHOPLAV_REFUSED_SIGNAL_PLACE },
+    { 8, UINT32_MAX, 32, 1, 1.0, TIKHOPLAV_REFUSED_SIGNAL_PLACE },
+    { 8, 0, 32, 1, DBL_MAX * 2, TIKHOPLAV_REFUSED_SIGNAL_NUMBERS },
+    { 8, 0, 32, 1, -1.0, TIKHOPLAV_REFUSED_SIGNAL_NUMBERS },
+    { 1, 0, 1, 0, 1.0, TIKHOPLAV_SIGNAL_WITHIN },
+    { 1, 0, 8, 1, 1.0, TIKHOPLAV_SIGNAL_WITHIN },
+    { 8, 7, 32, 0, 1.0, TIKHOPLAV_SIGNAL_WITHIN },
+    { 8, 32, 32, 1, DBL_MAX, TIKHOPLAV_SIGNAL_WITHIN },
+    { TIKHOPLAV_MESSAGE_MAX, 8 * TIKHOPLAV_MESSAGE_MAX - 32, 32, 1, 0.1, TIKHOPLAV_SIGNAL_WITHIN },
+};
+
+/* Those of a message of ones. */
+static const signal_trial signal_trials_of_ones[] = {
+    { 8, 0, 32, 0, 1.0, TIKHOPLAV_SIGNAL_ABOVE },
+    { 8, 3, 32, 1, 1.0, TIKHOPLAV_SIGNAL_WITHIN },
+    { 8, 7, 8, 1, DBL_MAX, TIKHOPLAV_SIGNAL_WITHIN },
+    { 8, 0, 32, 0, DBL_MAX, TIKHOPLAV_SIGNAL_NOT_FINITE },
+    { 8, 0, 2, 0, 5e-324, TIKHOPLAV_SIGNAL_ABOVE },
+};
+
 /* The bytes from the lowest one that is not as it was filled up to the top. */
 static size_t used(void (*run)(void))
 {
@@ -675,20 +713,39 @@ static size_t most_of_captures(void)
     return most;
 }
 
+static size_t most_of_signals(const signal_trial *table, size_t count, uint8_t byte)
+{
+    size_t i, most = 0;
+
+    memset(message, byte, sizeof message);
+    for (i = 0; i < count; i++) {
+        len = table[i].len;
+        start = table[i].start;
+        width = table[i].width;
+        is_signed = table[i].is_signed;
+        real = table[i].real;
+        most = larger(most, taken(signal_of_a_message, table[i].expected, "signals", i));
+    }
+    return most;
+}
+
 int main(void)
 {
     const size_t once = sizeof stream_trials / sizeof *stream_trials;
     const size_t each = sizeof stream_trials_of_each_edition / sizeof *stream_trials_of_each_edition;
     size_t others = most_of_trials(), streams = most_of_streams(stream_trials, once, 0);
-    size_t grain128a = most_of_grain128a(), grainv1 = most_of_grainv1(), captures = most_of_captures(), most;
+    size_t grain128a = most_of_grain128a(), grainv1 = most_of_grainv1(), captures = most_of_captures();
+    size_t signals = most_of_signals(signal_trials, sizeof signal_trials / sizeof *signal_trials, 0), most;
 
     for (edition = TIKHOPLAV_EDITION_1; edition <= TIKHOPLAV_EDITION_2; edition++)
         streams = larger(streams, most_of_streams(stream_trials_of_each_edition, each,
                                                   edition == TIKHOPLAV_EDITION_1 ? 384 : 512));
-    most = larger(larger(larger(others, captures), streams), larger(grain128a, grainv1));
-    printf("at most %zu bytes; in the calls on captures, %zu; in those on streams, %zu; in those of Grain-128a, %zu; "
-           "in that of Grain v1, %zu\n",
-           most, captures, streams, grain128a, grainv1);
+    signals = larger(signals, most_of_signals(signal_trials_of_ones,
+                                              sizeof signal_trials_of_ones / sizeof *signal_trials_of_ones, 0xff));
+    most = larger(larger(larger(others, captures), larger(streams, signals)), larger(grain128a, grainv1));
+    printf("at most %zu bytes; in the calls on captures, %zu; in that on signals, %zu; in those on streams, %zu; in "
+           "those of Grain-128a, %zu; in that of Grain v1, %zu\n",
+           most, captures, signals, streams, grain128a, grainv1);
     if (most > ENOUGH) {
         fprintf(stderr, "tests/stack.c: the header says %d\n", ENOUGH);
         return 1;
