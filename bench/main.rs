@@ -9,6 +9,7 @@ mod jobs;
 mod pieces;
 mod probes;
 mod rounds;
+mod signals;
 
 use rounds::{Pair, ROUNDS, ROUND_TIME};
 use tikhoplav::sizes::{CAPTURE_MAX, MESSAGE_MAX};
@@ -16,6 +17,8 @@ use tikhoplav::sizes::{CAPTURE_MAX, MESSAGE_MAX};
 const KIB: usize = 1024;
 /// What streams are timed at.
 const PIECE_LENS: [usize; 3] = [4 * KIB, 64, 1];
+/// What signals are timed at, in bits.
+const WIDTHS: [u32; 3] = [1, 16, 32];
 const MESSAGE_LENS: [usize; 5] = [16, 64, KIB, 32 * KIB, MESSAGE_MAX];
 /// The clocks of 32 KiB of message.
 const CLOCKS: usize = 16 * 32 * KIB;
@@ -40,6 +43,7 @@ fn main() {
     println!("\nWhat a byte more costs when sealing, times what it costs at the largest size:\n");
     growth::print();
     captures();
+    signals();
 }
 
 fn heading() {
@@ -112,6 +116,17 @@ fn captures() {
     captures::print_growth();
     println!("\nPlace and length of all frames of the longest capture, times one judging of it:");
     captures::print_stepping();
+}
+
+fn signals() {
+    println!("\nSignals, one at each start of the longest message of a frame. The yardstick is its own reader:");
+    for width in WIDTHS {
+        row(
+            "decoding, bits",
+            width as usize,
+            &mut signals::decoding(width),
+        );
+    }
 }
 
 fn engines() {
