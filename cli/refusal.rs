@@ -270,7 +270,7 @@ fn or_other_edition(cipher: &Cipher) -> String {
     format!(", or it was sealed under edition {other} (--edition {other})")
 }
 
-fn too_large(identifier: &Identifier) -> String {
+pub fn too_large(identifier: &Identifier) -> String {
     format!("the identifier is {identifier}, and may be at most {IDENTIFIER_MAX:X}")
 }
 

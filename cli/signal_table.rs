@@ -5,8 +5,9 @@ use crate::definition::Definition;
 use crate::failure::Failure;
 use crate::notation::Identifier;
 use crate::options::Options;
+use crate::refusal;
 use crate::streams::Source;
-use tikhoplav::sizes::FRAME_MESSAGE_MAX;
+use tikhoplav::sizes::{FRAME_MESSAGE_MAX, IDENTIFIER_MAX};
 
 const OPTION: &str = "--signals";
 const COLUMNS: usize = 9;
@@ -84,7 +85,7 @@ fn listed(text: &str, line: usize) -> Result<Option<Listed>, String> {
         Ok(given.to_string())
     })?;
     Ok(Some(Listed {
-        identifier: Identifier::parse(identifier.as_bytes())?.number,
+        identifier: of_a_frame(identifier)?,
         line,
         name: name.to_string(),
         definition,
@@ -94,6 +95,15 @@ fn listed(text: &str, line: usize) -> Result<Option<Listed>, String> {
             _ => return Err(columns(words.len())),
         },
     }))
+}
+
+/// The number of an identifier that a frame can have.
+fn of_a_frame(word: &str) -> Result<u32, String> {
+    let identifier = Identifier::parse(word.as_bytes())?;
+    if identifier.number > IDENTIFIER_MAX {
+        return Err(refusal::too_large(&identifier));
+    }
+    Ok(identifier.number)
 }
 
 fn columns(count: usize) -> String {

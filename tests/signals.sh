@@ -6,6 +6,7 @@ root=$(realpath "$(dirname "$0")/..")
 . "$(dirname "$0")/driving.sh" || exit 1
 
 width_max=$(defined SIGNAL_WIDTH_MAX)
+identifier_max=$(printf '%X' "$(defined IDENTIFIER_MAX)")
 frame_bits=$((8 * $(defined FRAME_MESSAGE_MAX)))
 most=1.7976931348623157e308
 beyond=1.7976931348623159e308
@@ -270,9 +271,12 @@ wrong_lines() {
   wrong_line "1 $columns" '123'
   wrong_line "8 $columns" '123 b 0 1 unsigned 1 0 0'
   wrong_line "11 $columns" '123 b 0 1 unsigned 1 0 0 1 km h'
-  for identifier in 12 1234 0x123 800 123456789 x; do
+  for identifier in 12 1234 0x123 800 FFF 123456789 x; do
     wrong_line "'$identifier' is no identifier: three hex digits, 000 to 7FF, or eight" \
       "$identifier b 0 1 unsigned 1 0 0 1"
+  done
+  for identifier in 20000000 80000000 FFFFFFFF; do
+    wrong_line "the identifier is $identifier, and may be at most $identifier_max" "$identifier b 0 1 unsigned 1 0 0 1"
   done
   wrong_line "start: 'x' is no number in decimal digits" '123 b x 1 unsigned 1 0 0 1'
   wrong_line "start: 4294967296 is over 4294967295, the last bit that counts" '123 b 4294967296 1 unsigned 1 0 0 1'
@@ -284,7 +288,7 @@ wrong_lines() {
   wrong_line "high: 'rpm' is no number" '123 b 0 1 signed 1 0 0 rpm'
   wrong_line "00000123 has a signal 'a' already, in line 2" '00000123 a 0 2 signed 1 0 0 1'
   wrong_line "no UTF-8" $'\xff'
-  printf '123 a 0 1 unsigned 1 0 0 1\r\n' >signals
+  printf '%s a 0 1 unsigned 1 0 0 1\r\n' 000 7FF "$identifier_max" >signals
   echo 0000 >input
   run 0 capture open - --hex-in --key "$key" --signals signals
 }
