@@ -61,7 +61,8 @@ impl Definition {
 }
 
 fn start(number: &Number) -> Result<u32, String> {
-    number
-        .exact()
-        .ok_or_else(|| format!("{number} is over {}, the last bit that counts", u32::MAX))
+    number.exact().ok_or_else(|| {
+        let last = u32::MAX;
+        format!("{number} is over {last}, the last start that the call takes")
+    })
 }

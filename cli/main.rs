@@ -67,6 +67,7 @@ fn help() -> String {
         DEPTH_MAX = CAPTURE_DEPTH_MAX,
         TOO_DEEP = CAPTURE_DEPTH_MAX + 1,
         WIDTH_MAX = SIGNAL_WIDTH_MAX,
+        START_MAX = u32::MAX,
         FRAME_BITS_LAST = 8 * FRAME_MESSAGE_MAX - 1,
         PIECE = streams::PIECE
     )

@@ -146,7 +146,7 @@ wrong_usage() {
   for number in -1 1.5 1e1 +1; do
     misused "--width: '$number' is no number in decimal digits" signal --start 0 --width $number "${plain[@]}"
   done
-  misused "--start: 4294967296 is over 4294967295, the last bit that counts" \
+  misused "--start: 4294967296 is over 4294967295, the last start that the call takes" \
     signal --start 4294967296 --width 1 "${plain[@]}"
   given=("${half[@]}" --low 0 --high 1)
   misused "--signed takes no value" signal "${given[@]}" --signed=yes
@@ -279,7 +279,8 @@ wrong_lines() {
     wrong_line "the identifier is $identifier, and may be at most $identifier_max" "$identifier b 0 1 unsigned 1 0 0 1"
   done
   wrong_line "start: 'x' is no number in decimal digits" '123 b x 1 unsigned 1 0 0 1'
-  wrong_line "start: 4294967296 is over 4294967295, the last bit that counts" '123 b 4294967296 1 unsigned 1 0 0 1'
+  wrong_line "start: 4294967296 is over 4294967295, the last start that the call takes" \
+    '123 b 4294967296 1 unsigned 1 0 0 1'
   wrong_line "width: '-1' is no number in decimal digits" '123 b 0 -1 unsigned 1 0 0 1'
   wrong_line "'Signed' is neither signed nor unsigned" '123 b 0 1 Signed 1 0 0 1'
   wrong_line "scale: '1,5' is no number" '123 b 0 1 signed 1,5 0 0 1'
@@ -346,6 +347,7 @@ help_of_signals() {
   cp output help
   check "--help shows how to give a signal" grep -q "^ *tikhoplav signal --start N --width N \[--signed\] " help
   check "--help has the widest signal" grep -q "  21 the signal has no bits or over $width_max, " help
+  check "--help has the last start" grep -q " a start over 4294967295;" help
   check "--help has the last bit of a frame" grep -q "behind bit $((frame_bits - 1)), the last that the longest" help
   check "--help has the columns" grep -qx "    IDENTIFIER NAME START WIDTH signed|unsigned SCALE OFFSET LOW HIGH \[UNIT\]" help
   run 0 signal --help
