@@ -679,7 +679,8 @@ int64_t tikhoplav_capture_frame_size(const uint8_t *capture, size_t capture_len,
  *
  *   CAN databases (DBC) have such signals as big-endian or Motorola ones, and count the bits of a byte from the lowest
  *   one up: start bit b there is start 8 * (b / 8) + 7 - b % 8 here. Their little-endian (Intel) signals are signals
- *   here only where they lie in one byte.
+ *   here only where they lie in one byte: start bit b and width w there are start 8 * (b / 8) + 8 - b % 8 - w and width
+ *   w here.
  *
  * What the call answers
  *
