@@ -32,7 +32,7 @@ impl Table {
         let mut table = Table(Vec::new());
         for (line, number) in bytes.split(|&byte| byte == b'\n').zip(1..) {
             let usage = |what| Failure::Usage(format!("{OPTION}: line {number}: {what}"));
-            let text = std::str::from_utf8(line).map_err(|_| usage("no UTF-8".to_string()))?;
+            let text = plain(line).map_err(usage)?;
             if let Some(listed) = listed(text, number).map_err(usage)? {
                 table.fresh(&listed).map_err(usage)?;
                 judge(&listed)?;
@@ -60,6 +60,16 @@ impl Table {
                 old.line
             )),
         }
+    }
+}
+
+/// The text of a line, which may go to a terminal. The error says what is wrong with it.
+fn plain(line: &[u8]) -> Result<&str, String> {
+    let text = std::str::from_utf8(line).map_err(|_| "no UTF-8".to_string())?;
+    let control = |c: &char| c.is_control() && !matches!(c, '\t' | '\r');
+    match text.chars().find(control) {
+        None => Ok(text),
+        Some(c) => Err(format!("U+{:04X} is a control character", u32::from(c))),
     }
 }
 

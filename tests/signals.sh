@@ -294,6 +294,21 @@ wrong_lines() {
   run 0 capture open - --hex-in --key "$key" --signals signals
 }
 
+control_characters() { # in names, units and comments; tab and CR are white space
+  local pair said
+  for pair in $'01 \x01' $'08 \b' $'0B \v' $'0C \f' $'1B \e' $'1F \x1f' $'7F \x7f' $'80 \xc2\x80' $'85 \xc2\x85' \
+    $'9B \xc2\x9b' $'9F \xc2\x9f'; do
+    said="U+00${pair% *} is a control character"
+    wrong_line "$said" "123 b 0 1 unsigned 1 0 0 1 ${pair#* }[31m"
+    wrong_line "$said" "123 b${pair#* } 0 1 unsigned 1 0 0 1"
+    wrong_line "$said" "# ${pair#* }"
+  done
+  printf '123 a\0 0 1 unsigned 1 0 0 1\n' >signals
+  misused "--signals: line 1: U+0000 is a control character" capture open absent_or_not --signals signals --key "$key"
+  printf '123\ta\t0\r1 unsigned 1 0 0 1 \xc2\xb0C\r\n' >signals
+  run 0 capture open - --hex-in --key "$key" --signals signals
+}
+
 refused_line() { # NUMBER WHAT LINE: refused before edition, key and capture, in JSON too
   printf '%s\n' '123 a 0 1 unsigned 1 0 0 1' '' "$3" 'wrong' >signals
   refused "$1" "--signals: line 3: $2" capture open input --signals signals --key "" --edition 3
@@ -375,6 +390,7 @@ under
 refused_beside_frames
 without_signals
 wrong_lines
+control_characters
 refused_lines
 order
 full_output
