@@ -12,6 +12,9 @@ use tikhoplav::sizes::{FRAME_MESSAGE_MAX, IDENTIFIER_MAX};
 const OPTION: &str = "--signals";
 const COLUMNS: usize = 9;
 
+/// The byte-order mark of UTF-8, which some editors begin a file with.
+const MARK: &[u8] = b"\xef\xbb\xbf";
+
 pub struct Listed {
     identifier: u32,
     line: usize,
@@ -29,8 +32,9 @@ impl Table {
             return Ok(None);
         };
         let bytes = Source::file(OPTION, path)?.all()?;
+        let lines = bytes.strip_prefix(MARK).unwrap_or(&bytes);
         let mut table = Table(Vec::new());
-        for (line, number) in bytes.split(|&byte| byte == b'\n').zip(1..) {
+        for (line, number) in lines.split(|&byte| byte == b'\n').zip(1..) {
             let usage = |what| Failure::Usage(format!("{OPTION}: line {number}: {what}"));
             let text = plain(line).map_err(usage)?;
             if let Some(listed) = listed(text, number).map_err(usage)? {

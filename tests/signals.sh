@@ -309,6 +309,18 @@ control_characters() { # in names, units and comments; tab and CR are white spac
   run 0 capture open - --hex-in --key "$key" --signals signals
 }
 
+byte_order_mark() { # passed over where the file begins, and nowhere else
+  local mark=$'\xef\xbb\xbf' line='000 a 0 1 unsigned 1 0 0 1' said="'\xef\xbb\xbf000' is no identifier"
+  said+=": three hex digits, 000 to 7FF, or eight"
+  wrong_line "$said" "$mark$line"
+  printf '%s\n' "$mark$mark$line" >signals
+  misused "--signals: line 1: $said" capture open absent_or_not --signals signals --key "$key"
+  for line in "$line" '# none' ''; do
+    printf '%s\r\n' "$mark$line" >signals
+    run 0 capture open - --hex-in --key "$key" --signals signals
+  done
+}
+
 refused_line() { # NUMBER WHAT LINE: refused before edition, key and capture, in JSON too
   printf '%s\n' '123 a 0 1 unsigned 1 0 0 1' '' "$3" 'wrong' >signals
   refused "$1" "--signals: line 3: $2" capture open input --signals signals --key "" --edition 3
@@ -391,6 +403,7 @@ refused_beside_frames
 without_signals
 wrong_lines
 control_characters
+byte_order_mark
 refused_lines
 order
 full_output
