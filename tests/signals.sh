@@ -345,6 +345,7 @@ order() { # what is wrong usage is told first; then the lines in their order; th
   : >input
   printf '%s\n' '123 a 0 0 unsigned 1 0 0 1' >signals
   misused "--signals: no file 'absent'" capture open - --signals absent --key "$key"
+  misused "--signals: no file '-'" capture open absent_or_not --signals - --key "$key"
   misused "--key or --key-file is needed" capture open - --signals absent
   misused "FILE: no file 'absent'" capture open absent --signals signals --key "$key"
   misused "--signals is given twice" capture open - --signals signals --signals signals
@@ -376,6 +377,7 @@ help_of_signals() {
   check "--help has the widest signal" grep -q "  21 the signal has no bits or over $width_max, " help
   check "--help has the last start" grep -q " a start over 4294967295;" help
   check "--help has the last bit of a frame" grep -q "behind bit $((frame_bits - 1)), the last that the longest" help
+  check "--help takes SIGNALS from a file alone" grep -q "SIGNALS is a file; - is not$" help
   check "--help has the columns" grep -qx "    IDENTIFIER NAME START WIDTH signed|unsigned SCALE OFFSET LOW HIGH \[UNIT\]" help
   run 0 signal --help
   check "signal --help" cmp help output
