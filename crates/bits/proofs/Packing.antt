@@ -4,7 +4,7 @@ use mathlib.Core.Path.{_≡_, refl, sym, ap, ap₂, _∙_}
 use mathlib.Core.Bool.{Bool, true, false≢true, and-eq-true-iff}
 use mathlib.Core.List.{List, [], _∷_, _++_, append-assoc}
 use Prim.Native.Nat.{ℕ, zero, suc, _+_, _*_}
-use native.Mathlib.Nat.{zero-add, suc-add, mod-eq-of-lt, lt-of-lt-of-le}
+use native.Mathlib.Nat.{zero-add, suc-add, lt-of-lt-of-le}
 use native.Mathlib.Omega.{arith}
 use borrow.Author.Tests.{eqb-true, eq-eqb}
 use lib.Dec.{lit<, eqb}
@@ -12,7 +12,7 @@ use lib.Pow.{pow-mono}
 use lib.ListN.{length, take, drop, length-append, length-take, length-drop, take-append-drop}
 use lib.Seq.{take-at, drop-at, take-append-le, drop-append-le, length-take-le}
 use Rattle.bits.specs.Bytes.{word, value, Bytes, bits, bytes, same}
-use Rattle.bits.proofs.Word.{length-word, value-bound, value-word, word-value}
+use Rattle.bits.proofs.Word.{length-word, value-bound, value-word-small, word-value}
 
 pub bits-append : (s t : List ℕ) → bits (s ++ t) ≡ bits s ++ bits t
 unfolding bits
@@ -38,7 +38,7 @@ unfolding bits bytes
 bytes-bits [] h = refl
 bytes-bits (b ∷ s) h =
     ap₂ _∷_
-    (ap value (take-at (word 8 b) (bits s) 8 (length-word 8 b)) ∙ value-word 8 b ∙ mod-eq-of-lt (h 0))
+    (ap value (take-at (word 8 b) (bits s) 8 (length-word 8 b)) ∙ value-word-small 8 b (h 0))
     (ap (bytes (length s)) (drop-at (word 8 b) (bits s) 8 (length-word 8 b)) ∙ bytes-bits s (λ i. h (suc i)))
 
 pub bits-bytes : (n : ℕ) (s : List Bool) → length s ≡ 8 * n → bits (bytes n s) ≡ s

@@ -4,7 +4,7 @@ use mathlib.Core.Path.{_≡_, refl, sym, ap, ap₂, _∙_}
 use mathlib.Core.Bool.{Bool}
 use mathlib.Core.List.{List, [], _∷_, _++_, append-nil}
 use Prim.Native.Nat.{ℕ, zero, suc, _+_, _-_, _*_, _/_, _%_, _^_, _<_, _≤_}
-use native.Mathlib.Nat.{le-refl, div-one, sub-self, le-of-eq, not-suc-le-zero, le-of-suc-le-suc, mul-suc, add-comm, suc-sub-suc, sub-zero, zero-mul, zero-add, add-assoc, add-mul, mul-assoc, mod-eq-of-lt}
+use native.Mathlib.Nat.{le-refl, div-one, sub-self, le-of-eq, not-suc-le-zero, le-of-suc-le-suc, mul-suc, add-comm, suc-sub-suc, sub-zero, zero-mul, zero-add, add-assoc, add-mul, mul-assoc}
 use native.Mathlib.Numerals.{sub-one}
 use native.Mathlib.Omega.{arith}
 use lib.Bits.{bitOr, or-shifted}
@@ -15,7 +15,7 @@ use Rattle.bits.specs.Bit.{digit}
 use Rattle.bits.specs.Bytes.{word, value, bits, bytes}
 use Rattle.bits.proofs.Moved.{word-split}
 use Rattle.bits.proofs.Packing.{bits-append, length-bits}
-use Rattle.bits.proofs.Word.{value-word, word-value, word-agrees, length-word, shl-mod}
+use Rattle.bits.proofs.Word.{value-word, value-word-small, word-value, word-agrees, length-word, shl-mod}
 
 pub value-append : (s t : List Bool) → value (s ++ t) ≡ value s * 2 ^ length t + value t
 unfolding value
@@ -33,7 +33,7 @@ value-byte s i h b =
     ap (λ (l : List ℕ). value (bits l)) (take-suc s i 0 h)
     ∙ ap value (bits-append (take i s) (getD s i 0 ∷ []) ∙ ap (λ (r : List Bool). bits (take i s) ++ r) (append-nil (word 8 (getD s i 0))))
     ∙ value-append (bits (take i s)) (word 8 (getD s i 0))
-    ∙ ap₂ (λ (k v : ℕ). value (bits (take i s)) * 2 ^ k + v) (length-word 8 (getD s i 0)) (value-word 8 (getD s i 0) ∙ mod-eq-of-lt b)
+    ∙ ap₂ (λ (k v : ℕ). value (bits (take i s)) * 2 ^ k + v) (length-word 8 (getD s i 0)) (value-word-small 8 (getD s i 0) b)
 
 -- A byte moved into a word of 64 bits.
 byte-in : (n b : ℕ) → b < 2 ^ 8 → bitOr (n % 2 ^ 64 * 2 ^ 8 % 2 ^ 64) b ≡ (n * 2 ^ 8 + b) % 2 ^ 64

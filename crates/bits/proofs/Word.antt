@@ -4,12 +4,13 @@ use mathlib.Core.Path.{_≡_, refl, sym, ap, ap₂, _∙_}
 use mathlib.Core.Bool.{Bool, true, false}
 use mathlib.Core.List.{List, [], _∷_, _++_, append-assoc}
 use Prim.Native.Nat.{ℕ, zero, suc, _+_, _-_, _*_, _/_, _%_, _^_, _<_}
-use native.Mathlib.Nat.{le-of-suc-le-suc, not-suc-le-zero, zero-add, suc-add, add-zero, add-comm, mul-div-cancel, mul-mod-left, mod-mod, div-one, mod-lt, mod-one, pow-suc, mul-add-mod-self-right}
+use native.Mathlib.Nat.{one-mul, mod-eq-of-lt, le-of-suc-le-suc, not-suc-le-zero, zero-add, suc-add, add-zero, add-comm, mul-div-cancel, mul-mod-left, mod-mod, div-one, mod-lt, mod-one, pow-suc, mul-add-mod-self-right}
 use native.Mathlib.Omega.{arith}
 use native.Mathlib.Numerals.{one-add, add-one}
 use lib.Arith.{mod-mul}
 use lib.Bits.{bitOr, or-shifted}
-use lib.Pow.{pow-pos, high, shr-shr, field, mod-pow-add, mod-mod-pow, pow-add}
+use lib.Dec.{lit<}
+use lib.Pow.{pow-pos, shl-exact, high, shr-shr, field, mod-pow-add, mod-mod-pow, pow-add}
 use lib.ListN.{length, getD, drop}
 use Rattle.bits.specs.Bit.{digit}
 use Rattle.bits.specs.Bytes.{isOne, lowest, bit, word, value}
@@ -45,6 +46,9 @@ value-word zero x = sym (mod-one x)
 value-word (suc n) x =
     ap₂ _+_ (ap₂ (λ (d k : ℕ). d * 2 ^ k) (digit-isOne (x / 2 ^ n % 2) (mod-lt (x / 2 ^ n) (pow-pos 1))) (length-word n x)) (value-word n x)
     ∙ sym (mod-suc-pow n x)
+
+pub value-word-small : (n x : ℕ) → x < 2 ^ n → value (word n x) ≡ x
+value-word-small n x h = value-word n x ∙ mod-eq-of-lt h
 
 -- The n lowest bits are those of the remainder by 2 ^ n.
 pub word-agrees : (n x y : ℕ) → x % 2 ^ n ≡ y % 2 ^ n → word n x ≡ word n y
@@ -82,6 +86,10 @@ pub shl-mod : (j k x : ℕ) → x * 2 ^ k % 2 ^ (j + k) ≡ x % 2 ^ j * 2 ^ k
 shl-mod j k x =
     ap (λ (m : ℕ). x * 2 ^ k % m) (pow-add 2 j k) ∙ mod-mul (x * 2 ^ k) (pow-pos j) (pow-pos k)
     ∙ ap₂ (λ (a b : ℕ). a % 2 ^ j * 2 ^ k + b) (mul-div-cancel x (pow-pos k)) (mul-mod-left x (2 ^ k)) ∙ add-zero (x % 2 ^ j * 2 ^ k)
+
+-- One moved up by w places in a word of 64 bits.
+pub one-up : (w : ℕ) → w < 64 → 1 * 2 ^ w % 2 ^ 64 ≡ 2 ^ w
+one-up w h = shl-exact 1 w 64 (lit< tt) (omega arith) ∙ one-mul (2 ^ w)
 
 -- A word that moved up by one bit, with a new lowest bit.
 pub word-shift : (n x new : ℕ) → word (suc n) (bitOr (x * 2 % 2 ^ suc n) (new % 2)) ≡ shift (word (suc n) x) (lowest new)

@@ -6,20 +6,15 @@ use mathlib.Core.List.{List, _++_}
 use Prim.Native.Nat.{ℕ, _+_, _-_, _*_, _%_, _^_, _≤_, _<_}
 use native.Mathlib.Nat.{mod-lt}
 use native.Mathlib.Omega.{arith}
-use lib.Dec.{lit<}
 use lib.ListN.{drop}
 use lib.Pow.{pow-pos, shl-lt, shl-exact}
 use Rattle.bits.specs.Bytes.{word}
 use Rattle.bits.specs.Strings.{zeros}
 use Rattle.bits.proofs.Moved.{word-zero}
-use Rattle.bits.proofs.Word.{word-agrees, word-append, word-drop}
+use Rattle.bits.proofs.Word.{one-up, word-agrees, word-append, word-drop}
 use native.Mathlib.Nat.{mod-mod, add-zero}
 use Rattle.grain128a.specs.Payload.{tagSize, pad}
 use Rattle.grain128a.specs.TagNumber.{TagNumber}
-
--- One moved up by w places.
-pub one-up : (w : ℕ) → w ≤ 32 → 1 * 2 ^ w % 2 ^ 64 ≡ 2 ^ w
-one-up w few = shl-exact 1 w 64 (lit< tt) (omega arith) ∙ omega arith
 
 module _ (w t : ℕ) (few : w ≤ 32) where
   lowest : ℕ
@@ -45,7 +40,7 @@ module _ (w t : ℕ) (few : w ≤ 32) where
   unfolding lowest
   tag-number accumulator size e sized =
       subst (TagNumber w accumulator)
-      (sym (ap₂ (λ (d k : ℕ). t % d * 2 ^ k % 2 ^ 64) (one-up w few) same-pad ∙ shl-exact w (pad w) 64 lowest-small (omega (arith, whole))))
+      (sym (ap₂ (λ (d k : ℕ). t % d * 2 ^ k % 2 ^ 64) (one-up w (omega (arith, few))) same-pad ∙ shl-exact w (pad w) 64 lowest-small (omega (arith, whole))))
       record { small = subst (λ (k : ℕ). lowest * 2 ^ pad w < 2 ^ k) whole (shl-lt w (pad w) lowest-small); tagged = moved ∙ ap (λ (s : List Bool). s ++ zeros (pad w)) (sym last) }
     where
       same-pad : size * 8 - w ≡ pad w

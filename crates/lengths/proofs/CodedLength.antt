@@ -6,7 +6,7 @@ use mathlib.Core.Bool.{Bool, true, false, cond, _&&_, and-eq-true-iff}
 use mathlib.Core.List.{List, [], _∷_, _++_}
 use mathlib.Core.Option.{none, some, Option·some-injective, Option·none-ne-some}
 use Prim.Native.Nat.{ℕ, zero, suc, _+_, _-_, _*_, _/_, _%_, _^_, _≤_, _<_}
-use native.Mathlib.Nat.{lt-of-not-le, le-of-eq, mod-eq-of-lt, div-add-mod'}
+use native.Mathlib.Nat.{lt-of-not-le, le-of-eq, div-add-mod'}
 use native.Mathlib.Decide.{decLe}
 use native.Mathlib.Omega.{arith}
 use borrow.Author.Tests.{le-leb, lt-leb, leb-true, ltb-true}
@@ -14,7 +14,7 @@ use lib.Dec.{lit<, leb, ltb}
 use lib.ListN.{length, take, drop, length-drop}
 use lib.Seq.{take-all}
 use Rattle.bits.specs.Bytes.{Bytes, bits, value, word}
-use Rattle.bits.proofs.Word.{value-word}
+use Rattle.bits.proofs.Word.{value-word-small}
 use Rattle.bits.proofs.Spelling.{value-append}
 use Rattle.lengths.specs.CodedLength.{codedLength, lengthIn, decodedLength, DistinguishedLengths}
 
@@ -57,7 +57,7 @@ coded-grows m n h =
 -- The number that bytes spell, by the first of them.
 value-cons : (x : ℕ) (s : List ℕ) → x < 256 → value (bits (x ∷ s)) ≡ x * 2 ^ length (bits s) + value (bits s)
 unfolding bits
-value-cons x s h = value-append (word 8 x) (bits s) ∙ ap (λ (v : ℕ). v * 2 ^ length (bits s) + value (bits s)) (value-word 8 x ∙ mod-eq-of-lt h)
+value-cons x s h = value-append (word 8 x) (bits s) ∙ ap (λ (v : ℕ). v * 2 ^ length (bits s) + value (bits s)) (value-word-small 8 x h)
 
 value-one : (x : ℕ) → x < 256 → value (bits (x ∷ [])) ≡ x
 unfolding bits value

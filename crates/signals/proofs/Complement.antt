@@ -4,7 +4,7 @@ use mathlib.Core.Path.{_≡_, refl, sym, ap, ap₂, subst, _∙_}
 use mathlib.Core.Bool.{Bool, true, false, cond}
 use mathlib.Core.List.{List, [], _∷_}
 use Prim.Native.Nat.{ℕ, zero, suc, _+_, _-_, _*_, _%_, _^_, _<_, _≤_, zero-le, suc-le-suc}
-use native.Mathlib.Nat.{suc-inj, le-of-suc-le-suc, not-suc-le-zero, lt-of-lt-of-le, zero-mul, one-mul, add-zero, mod-eq-of-lt, pow-suc}
+use native.Mathlib.Nat.{suc-inj, le-of-suc-le-suc, not-suc-le-zero, lt-of-lt-of-le, zero-mul, one-mul, add-zero, pow-suc}
 use native.Mathlib.Omega.{arith}
 use borrow.Author.Tests.{lt-ltb}
 use lib.Arith.{comp-comp}
@@ -16,7 +16,7 @@ use lib.Pow.{pow-mono, pow-pos, low, le-ones, lt-of-le-ones}
 use lib.Signed.{mag, _≤ℤ_, leZ-yes}
 use Rattle.bits.specs.Bit.{digit}
 use Rattle.bits.specs.Bytes.{word, value}
-use Rattle.bits.proofs.Word.{length-word, value-bound, value-word, word-value}
+use Rattle.bits.proofs.Word.{length-word, value-bound, value-word-small, word-value}
 use Rattle.signals.specs.Raw.{misplaced, field, twosComplement, number, raw}
 use Rattle.signals.specs.Writing.{InRange, complement}
 use Rattle.signals.proofs.Placed.{placed, length-field}
@@ -93,9 +93,6 @@ complement-number true (true ∷ s) = ap (complement (suc (length s))) (top-set 
 pub word-number : (width : ℕ) (signed : Bool) (s : List Bool) → length s ≡ width → word width (complement width (number signed s)) ≡ s
 word-number width signed s e =
     ap (λ (k : ℕ). word k (complement k (number signed s))) (sym e) ∙ ap (word (length s)) (complement-number signed s) ∙ word-value s
-
-pub value-word-small : (k r : ℕ) → r < 2 ^ k → value (word k r) ≡ r
-value-word-small k r h = value-word k r ∙ mod-eq-of-lt h
 
 word-cons : (b : Bool) (k r : ℕ) → r < 2 ^ k → word (suc k) (digit b * 2 ^ k + r) ≡ b ∷ word k r
 unfolding value

@@ -12,10 +12,9 @@ use lib.Seq.{length-take-le, drop-drop}
 use Rattle.bits.specs.Bytes.{value, bits}
 use Rattle.bits.proofs.Packing.{length-bits}
 use Rattle.bits.proofs.Parts.{value-part, bits-part, part-within}
-use Rattle.bits.proofs.Word.{value-bound}
+use Rattle.bits.proofs.Word.{one-up, value-bound}
 use Rattle.signals.specs.Raw.{misplaced, field}
 use Rattle.signals.proofs.Placed.{placed}
-use Rattle.signals.proofs.Shifted.{one-shifted}
 
 -- The bytes that a signal lies in: from `first` up to, not including, `last`.
 abbrev pub first : (start : ℕ) → ℕ
@@ -60,4 +59,4 @@ module _ (message : List ℕ) (start width : ℕ) (at : misplaced (length messag
   -- as a word of 64 bits is shifted and cut
   pub field-cut : (n : ℕ) → n ≡ value (bits (around message start width)) % 2 ^ 64 → n / 2 ^ (8 * last start width - (start + width)) % (1 * 2 ^ width % 2 ^ 64) ≡ value (field message start width)
   field-cut n e =
-      ap₂ (λ (a b : ℕ). a / 2 ^ (8 * last start width - (start + width)) % b) (e ∙ mod-eq-of-lt around-small) (one-shifted width (placed (length message) start width at .most)) ∙ field-read
+      ap₂ (λ (a b : ℕ). a / 2 ^ (8 * last start width - (start + width)) % b) (e ∙ mod-eq-of-lt around-small) (one-up width (omega (arith, placed (length message) start width at .most))) ∙ field-read

@@ -1,5 +1,4 @@
 pub mod Placed
-pub mod Shifted
 pub mod Field
 pub mod Difference
 pub mod Complement

@@ -5,7 +5,6 @@ use mathlib.Core.Logic.{_↔_}
 use mathlib.Core.Bool.{true}
 use mathlib.Core.List.{_++_}
 use Prim.Native.Nat.{ℕ, _^_, _<_}
-use native.Mathlib.Nat.{mod-eq-of-lt}
 use native.Mathlib.Omega.{arith}
 use borrow.Author.Tests.{eqb-true}
 use lib.Bits.{bitXor, bitOr, xor-self, xor-add-and, or-add-and, and-le-l, and-le-r}
@@ -13,7 +12,7 @@ use lib.Dec.{eqb}
 use lib.ListN.{take, drop}
 use lib.Seq.{take-at, drop-at}
 use Rattle.bits.specs.Bytes.{word, value}
-use Rattle.bits.proofs.Word.{length-word, value-word}
+use Rattle.bits.proofs.Word.{length-word, value-word-small}
 use Rattle.generators.specs.Running.{Running}
 use Rattle.preoutput.specs.declared.Run.{Run}
 use Rattle.preoutput.specs.Words.{generatorOf}
@@ -21,7 +20,7 @@ use Rattle.preoutput.specs.Running.{runningOf}
 use Rattle.strokes.specs.Engines.{Agree}
 
 word-injective : (x y : ℕ) → x < 2 ^ 64 → y < 2 ^ 64 → word 64 x ≡ word 64 y → x ≡ y
-word-injective x y hx hy e = sym (mod-eq-of-lt hx) ∙ sym (value-word 64 x) ∙ ap value e ∙ value-word 64 y ∙ mod-eq-of-lt hy
+word-injective x y hx hy e = sym (value-word-small 64 x hx) ∙ ap value e ∙ value-word-small 64 y hy
 
 first-word : (x0 x1 y0 y1 : ℕ) → word 64 x0 ++ word 64 x1 ≡ word 64 y0 ++ word 64 y1 → word 64 x0 ≡ word 64 y0
 first-word x0 x1 y0 y1 e = sym (take-at (word 64 x0) (word 64 x1) 64 (length-word 64 x0)) ∙ ap (take 64) e ∙ take-at (word 64 y0) (word 64 y1) 64 (length-word 64 y0)

@@ -1,7 +1,9 @@
 -- `grain128a::tag::finish` meets its contract.
 -- Assumes nothing.
+use native.Mathlib.Omega.{arith}
 use lib.Pow.{pow-pos}
-use Rattle.grain128a.proofs.TagNumber.{one-up, tag-number}
+use Rattle.bits.proofs.Word.{one-up}
+use Rattle.grain128a.proofs.TagNumber.{tag-number}
 use borrow.Author.Needs.{needs}
 use Rattle.grain128a.proofs.tag.finish.Statement.{statement}
 use Rattle.grain128a.proofs.tag.finish.Tie as tie
@@ -22,7 +24,7 @@ shl-result : tie.Need-shl-result
 shl-result c = search needs
 
 rem-result : tie.Need-rem-result
-rem-result c = rw (one-up (c .before .before .args .tag-bits) (c .before .before .pre)) (pow-pos (c .before .before .args .tag-bits))
+rem-result c = rw (one-up (c .before .before .args .tag-bits) (omega (arith, c .before .before .pre))) (pow-pos (c .before .before .args .tag-bits))
 
 shl-result-2 : tie.Need-shl-result-2
 shl-result-2 c = search needs

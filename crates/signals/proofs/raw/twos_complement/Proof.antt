@@ -4,16 +4,15 @@ use mathlib.Core.Path.{_≡_, sym, ap₂, _∙_}
 use Prim.Native.Nat.{ℕ, _-_, _*_, _%_, _^_, _≤_, _<_}
 use native.Mathlib.Nat.{mod-le, lt-of-lt-of-le, lt-of-le-of-lt}
 use native.Mathlib.Omega.{arith}
-use lib.Pow.{pow-mono}
+use lib.Pow.{pow-mono, pow-pos}
 use lib.IntN.{pos, _-ℤ_}
 use mir.Syntax.{w64}
 use mir.ValLaws.{toZ-ofZ}
 use borrow.Author.Needs.{needs}
 use Rattle.bits.specs.Bytes.{word, value}
-use Rattle.bits.proofs.Word.{length-word}
-use Rattle.signals.proofs.Shifted.{one-shifted, one-shifted-pos}
+use Rattle.bits.proofs.Word.{length-word, one-up, value-word-small}
 use Rattle.signals.proofs.Difference.{as-signed, signed-fits}
-use Rattle.signals.proofs.Complement.{twos-complement, value-word-small}
+use Rattle.signals.proofs.Complement.{twos-complement}
 use Rattle.signals.proofs.raw.twos_complement.Statement.{statement}
 use Rattle.signals.proofs.raw.twos_complement.Tie as tie
 
@@ -46,7 +45,7 @@ shl-rest : tie.Need-shl-rest
 shl-rest c = search needs
 
 rem-rest : tie.Need-rem-rest
-rem-rest c = one-shifted-pos (c .args .width - 1) (omega (arith, c .pre .1))
+rem-rest c = rw (one-up (c .args .width - 1) (omega (arith, c .pre .1))) (pow-pos (c .args .width - 1))
 
 cast-result : tie.Need-cast-result
 cast-result c = record { sfits = let h = rest-small c in omega arith }
@@ -65,7 +64,7 @@ returns c =
     let n = c .args .n in
     let width = c .args .width in
     let spelled : value (word width n) ≡ n = value-word-small width n (c .pre .2) in
-    let halved : 1 * 2 ^ (width - 1) % 2 ^ 64 ≡ 2 ^ (width - 1) = one-shifted (width - 1) (omega (arith, c .pre .1)) in
+    let halved : 1 * 2 ^ (width - 1) % 2 ^ 64 ≡ 2 ^ (width - 1) = one-up (width - 1) (omega (arith, c .pre .1)) in
     toZ-ofZ w64 _ (signed-fits (Rest c) (Top c) (rest-small c) (top-small c))
     ∙ as-signed (Rest c) (Top c) (rest-small c) (top-small c)
     ∙ sym (twos-complement (word width n) width (length-word width n) (c .pre .0) ∙ ap₂ (λ (v k : ℕ). pos (v % k) -ℤ pos (v - v % k)) spelled (sym halved))

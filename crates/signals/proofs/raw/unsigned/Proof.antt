@@ -2,10 +2,11 @@
 -- Assumes nothing.
 use native.Mathlib.Omega.{arith}
 use lib.ListN.{length}
+use lib.Pow.{pow-pos}
 use borrow.Author.Needs.{needs}
+use Rattle.bits.proofs.Word.{one-up}
 use Rattle.signals.proofs.Placed.{placed}
 use Rattle.signals.proofs.Field.{last-inside, field-cut}
-use Rattle.signals.proofs.Shifted.{one-shifted-pos}
 use Rattle.signals.proofs.raw.unsigned.Statement.{statement}
 use Rattle.signals.proofs.raw.unsigned.Tie as tie
 
@@ -45,7 +46,8 @@ shl-result c =
 rem-result : tie.Need-rem-result
 rem-result c =
     let s = c .before .before .before in
-    one-shifted-pos (s .args .width) (placed (length (s .args .message .now)) (s .args .start) (s .args .width) (s .pre) .most)
+    let h = placed (length (s .args .message .now)) (s .args .start) (s .args .width) (s .pre) in
+    rw (one-up (s .args .width) (omega arith)) (pow-pos (s .args .width))
 
 returns : tie.Need-returns
 returns c =
