@@ -1,4 +1,5 @@
 // The authenticator: the accumulator and its register, on words.
+#![tactic(auto)]
 mod products;
 
 ghost use Rattle.std.specs.Prelude.{◌≡◌};
@@ -8,7 +9,7 @@ ghost use Rattle.authenticator.specs.Authenticator as authenticator;
 ghost use Rattle.authenticator.specs.Words.{authenticator_of};
 
 // Place 0 of the accumulator and of the register is the top bit of its word.
-#[derive(Drop)]
+#[derive(Clone, Copy)]
 pub struct Tagger {
     pub accumulator: u64,
     pub register: u64,

@@ -1,4 +1,5 @@
 // Bits, bytes and words: the layer below the registers. A register's word has its first place in its top bit.
+#![tactic(auto)]
 mod exchanging;
 pub mod parting;
 pub mod turning;

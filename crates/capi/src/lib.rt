@@ -1,4 +1,5 @@
 // The calls for C: plain numbers and byte slices. A success is a number from 0 on, refusal n is minus n.
+#![tactic(auto)]
 pub mod capturing;
 pub mod codes;
 pub mod framing;

@@ -1,4 +1,5 @@
 // Captures: sections of frames and groups, judged as a whole, and frames by number.
+#![tactic(auto)]
 pub mod body;
 mod entries;
 mod numbers;
@@ -13,18 +14,18 @@ use refusals::{Answer, Refusal};
 use walk::Tallied;
 
 // The number of a frame, from 0 in walking order.
-#[derive(Drop)]
+#[derive(Clone, Copy)]
 pub struct FrameNumber(pub u64);
 
 // A part of a capture: where it begins, and how many bytes it has.
-#[derive(Drop)]
+#[derive(Clone, Copy)]
 pub struct Part {
     pub start: usize,
     pub size: usize,
 }
 
 // What looking for a frame finds.
-#[derive(Drop)]
+#[derive(Clone, Copy)]
 pub enum Found {
     At(Part),
     Refused(Refusal),

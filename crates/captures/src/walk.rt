@@ -9,14 +9,14 @@ use crate::{FrameNumber, Part, body, entries, parts};
 use refusals::Refusal;
 
 // Frames counted so far, and the place of the one that is sought, if it is among them.
-#[derive(Drop)]
+#[derive(Clone, Copy)]
 pub struct Tally {
     pub frames: usize,
     pub found: Part,
 }
 
 // What walking a section comes to.
-#[derive(Drop)]
+#[derive(Clone, Copy)]
 pub enum Tallied {
     Broken(Refusal),
     Sound(Tally),

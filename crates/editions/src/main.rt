@@ -1,5 +1,6 @@
 // Shows the second edition beside the first: the loading and the first pre-outputs in both orders of bits, the second edition's start-up from
 // each, and payloads of both editions from the same inputs.
+#![tactic(auto)]
 mod inputs;
 mod payloads;
 mod shown;

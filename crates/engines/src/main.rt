@@ -1,5 +1,6 @@
 // Runs the plain engine and the engine of strokes beside one another, on many states, in each way of running and over many counts of
 // clocks, and compares the registers and the pre-outputs that they end in. Prints a line for each way and count.
+#![tactic(auto)]
 mod compared;
 mod states;
 

@@ -1,4 +1,5 @@
 // The rows of making and of reading a frame, tried in their order.
+#![tactic(auto)]
 pub mod layout;
 
 ghost use Rattle.std.specs.Prelude.{◌≡◌, false, length};

@@ -1,4 +1,5 @@
 // Sealed CAN FD frames. Where no edition is named, it is the first.
+#![tactic(auto)]
 pub mod by_edition;
 
 ghost use Rattle.std.specs.Prelude.{◌≡◌};

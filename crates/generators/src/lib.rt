@@ -1,1 +1,2 @@
 // A generator of the Grain ciphers, over the functions of any of them and registers of any width: definitions and their laws.
+#![tactic(auto)]

@@ -21,8 +21,8 @@ fn load(key: &[u8], nonce: &[u8]) -> Registers
 {
     let mut k = [0u8; 16];
     let mut n = [0u8; 12];
-    bytes::copy(key, &mut k);
-    bytes::copy(nonce, &mut n);
+    k.copy_from_slice(key);
+    n.copy_from_slice(nonce);
     loading::load(Edition::First, &k, &n)
 }
 

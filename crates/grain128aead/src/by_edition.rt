@@ -25,8 +25,8 @@ fn begin(edition: Edition, key: &[u8], nonce: &[u8], ad: &[u8]) -> Engine
 {
     let mut k = [0u8; 16];
     let mut n = [0u8; 12];
-    bytes::copy(key, &mut k);
-    bytes::copy(nonce, &mut n);
+    k.copy_from_slice(key);
+    n.copy_from_slice(nonce);
     payload::header::begin(edition, &k, &n, ad)
 }
 

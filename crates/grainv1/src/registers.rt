@@ -4,7 +4,7 @@ ghost use Rattle.bits.specs.Bytes.{word};
 
 // Places 0 to 63 of a register are its word 0, the first in the top bit. Places 64 to 79 are the lowest sixteen bits of its word 1; the others of that word
 // count for nothing.
-#[derive(Drop)]
+#[derive(Clone, Copy)]
 pub struct Registers {
     pub lfsr0: u64,
     pub lfsr1: u64,
@@ -13,7 +13,7 @@ pub struct Registers {
 }
 
 // The registers, with the outputs of their clocks shifted into a word.
-#[derive(Drop)]
+#[derive(Clone, Copy)]
 pub struct Run {
     pub registers: Registers,
     pub outputs: u64,

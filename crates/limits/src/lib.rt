@@ -1,2 +1,3 @@
 // The limit on messages of every cipher, in bytes.
+#![tactic(auto)]
 pub const MESSAGE_LIMIT: usize = 61440;

@@ -1,5 +1,5 @@
 // The editions of Grain-128AEAD.
-#[derive(Drop)]
+#[derive(Clone, Copy)]
 pub enum Edition {
     First,
     Second,

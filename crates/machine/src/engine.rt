@@ -13,7 +13,7 @@ use strokes::streams;
 use strokes::streams::Streamed;
 
 // The machine carries its edition along; no clock looks at it.
-#[derive(Drop)]
+#[derive(Clone, Copy)]
 pub struct Engine {
     pub edition: Edition,
     pub registers: Registers,
@@ -35,7 +35,7 @@ fn after(e: Engine, m: u8, s: Streamed) -> Engine
 }
 
 // The machine after a byte, and the byte with its keystream added.
-#[derive(Drop)]
+#[derive(Clone, Copy)]
 pub struct Crypted {
     pub engine: Engine,
     pub byte: u8,
@@ -91,7 +91,7 @@ fn after_word(e: Engine, m: u64, s: Streamed) -> Engine
 }
 
 // The machine after a word of the string, and the word with its keystream added.
-#[derive(Drop)]
+#[derive(Clone, Copy)]
 pub struct CryptedWord {
     pub engine: Engine,
     pub word: u64,

@@ -1,10 +1,11 @@
 // Answers and refusals, and the signed number that an answer is in C.
+#![tactic(auto)]
 ghost use Rattle.std.specs.Prelude.{◌≡◌};
 ghost use Rattle.refusals.specs.Refusals as refusals;
 ghost use Rattle.refusals.specs.Signed.{signed_of, capped};
 
 // Why a call refuses. specs/Refusals.antt gives each case its number.
-#[derive(Drop)]
+#[derive(Clone, Copy)]
 pub enum Refusal {
     KeySize,
     NonceSize,
@@ -32,14 +33,14 @@ pub enum Refusal {
 }
 
 // What some rows of a call come to.
-#[derive(Drop)]
+#[derive(Clone, Copy)]
 pub enum Check {
     Passed,
     Failed(Refusal),
 }
 
 // What a call answers: a count, as a rule of the bytes written, or why it refused.
-#[derive(Drop)]
+#[derive(Clone, Copy)]
 pub enum Answer {
     Count(usize),
     Refused(Refusal),

@@ -1,4 +1,5 @@
 // Physical values of signals in a message: where a signal lies, its raw number, its value, and where that lies in its limits.
+#![tactic(auto)]
 mod judging;
 mod raw;
 
@@ -8,7 +9,7 @@ ghost use Rattle.signals.specs.Calls as calls;
 use refusals::{Answer, Refusal};
 
 // The four numbers of a signal: what its raw number is multiplied by, what is added, and its limits.
-#[derive(Drop)]
+#[derive(Clone, Copy)]
 pub struct Scaling {
     pub scale: f64,
     pub offset: f64,
@@ -17,7 +18,7 @@ pub struct Scaling {
 }
 
 // A value, and where it lies in its limits; the ends are within.
-#[derive(Drop)]
+#[derive(Clone, Copy)]
 pub enum Verdict {
     Below(f64),
     Within(f64),
@@ -26,7 +27,7 @@ pub enum Verdict {
 }
 
 // What decoding a signal comes to.
-#[derive(Drop)]
+#[derive(Clone, Copy)]
 pub enum Decoded {
     Value(Verdict),
     Refused(Refusal),

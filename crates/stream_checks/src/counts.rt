@@ -2,7 +2,7 @@
 ghost use Rattle.std.specs.Prelude.{◌≡◌, length};
 ghost use Rattle.stream_checks.specs.Counts as counts;
 
-#[derive(Drop)]
+#[derive(Clone, Copy)]
 pub enum Kind {
     Sealing,
     Checking,
@@ -10,7 +10,7 @@ pub enum Kind {
 
 // The kind by its number; the phase, 0 for open and 1 for finished; the announced length of the AD; the bytes taken so far of the AD and of the
 // message.
-#[derive(Drop)]
+#[derive(Clone, Copy)]
 pub struct Counts {
     pub kind: u8,
     pub phase: u8,

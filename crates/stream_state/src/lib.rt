@@ -1,4 +1,5 @@
 // The 64 bytes of a stream: how they are read and written, and the clocks so far.
+#![tactic(auto)]
 mod reading;
 mod writing;
 
@@ -13,14 +14,14 @@ use stream_checks::counts;
 use stream_checks::counts::Counts;
 
 // A stream: the machine, which carries its edition, and what is counted.
-#[derive(Drop)]
+#[derive(Clone, Copy)]
 pub struct Session {
     pub engine: Engine,
     pub counts: Counts,
 }
 
 // What a state holds.
-#[derive(Drop)]
+#[derive(Clone, Copy)]
 pub enum Held {
     Sound(Session),
     Unsound,

@@ -25,8 +25,8 @@ pub fn start(edition: Edition, key: &[u8], nonce: &[u8], announced: usize) -> En
 {
     let mut k = [0u8; 16];
     let mut n = [0u8; 12];
-    bytes::copy(key, &mut k);
-    bytes::copy(nonce, &mut n);
+    k.copy_from_slice(key);
+    n.copy_from_slice(nonce);
     payload::header::absorb_length(startup::start(edition, &k, &n), announced)
 }
 

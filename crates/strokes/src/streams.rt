@@ -6,14 +6,14 @@ use crate::stroke;
 use preoutput::{Registers, Run};
 
 // Which pre-outputs are keystream bits.
-#[derive(Drop)]
+#[derive(Clone, Copy)]
 pub enum Taken {
     Every,
     EverySecond,
 }
 
 // The registers after some string bits, with the keystream and the authentication bits of their clocks.
-#[derive(Drop)]
+#[derive(Clone, Copy)]
 pub struct Streamed {
     pub registers: Registers,
     pub keystream: u64,
@@ -21,7 +21,7 @@ pub struct Streamed {
 }
 
 // With the keystream bits alone.
-#[derive(Drop)]
+#[derive(Clone, Copy)]
 pub struct Keystreamed {
     pub registers: Registers,
     pub keystream: u64,

@@ -1,5 +1,6 @@
 // Runs table 3 of source document 003: each of its cells on the machine below the entry points, and the columns with a key that is not blank
 // through the calls. Prints a line for each, and the counts.
+#![tactic(auto)]
 mod calls;
 mod rows;
 mod table;

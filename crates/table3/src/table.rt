@@ -5,7 +5,7 @@ const KEY: [u8; 16] = [
     0x01, 0x23, 0x45, 0x67, 0x89, 0xab, 0xcd, 0xef, 0x12, 0x34, 0x56, 0x78, 0x9a, 0xbc, 0xde, 0xf0,
 ];
 
-#[derive(Drop)]
+#[derive(Clone, Copy)]
 pub struct Column {
     pub number: usize,
     pub key: [u8; 16],
@@ -70,7 +70,7 @@ pub const COLUMNS: [Column; 4] = [
 ];
 
 // The rows that only the columns with authentication have.
-#[derive(Drop)]
+#[derive(Clone, Copy)]
 pub struct Rows {
     pub accumulator: u64,
     pub register: u64,
@@ -111,7 +111,7 @@ pub const ROWS: [Rows; 2] = [
 ];
 
 // The first of a message's bits is the word's top bit.
-#[derive(Drop)]
+#[derive(Clone, Copy)]
 pub struct Message {
     pub size: usize,
     pub bits: u64,
@@ -139,7 +139,7 @@ pub const MESSAGES: [Message; 5] = [
 pub const SHORT_TAG: u64 = 0xb196;
 
 // A tag of so many bits, which stands in so many bytes.
-#[derive(Drop)]
+#[derive(Clone, Copy)]
 pub struct Tag {
     pub bits: u32,
     pub size: i64,

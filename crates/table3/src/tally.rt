@@ -1,7 +1,7 @@
 // Counts what came out as expected and what did not, with a line for each, which names the column and the row.
 use libc::STDOUT_FILENO;
 
-#[derive(Drop)]
+#[derive(Clone, Copy)]
 pub struct Tally {
     pub good: u32,
     pub bad: u32,
@@ -22,7 +22,7 @@ fn counted(t: Tally, ok: bool) -> Tally {
 }
 
 // How a number came out, to be shown in so many hex digits.
-#[derive(Drop)]
+#[derive(Clone, Copy)]
 pub struct Compared {
     digits: usize,
     found: u64,
@@ -76,7 +76,7 @@ pub fn numbered(t: Tally, column: usize, name: &[u8], n: usize, rest: &[u8], v: 
 }
 
 // How the five numbers of a row are shown: what the first is numbered, and the digits of each.
-#[derive(Drop)]
+#[derive(Clone, Copy)]
 pub struct Style {
     first: usize,
     digits: usize,

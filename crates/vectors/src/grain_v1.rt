@@ -7,7 +7,7 @@ use grainv1::{keystream, starting};
 use limits::MESSAGE_LIMIT;
 
 // As printed: eight bytes of key, two more, the nonce, and ten bytes of keystream.
-#[derive(Drop)]
+#[derive(Clone, Copy)]
 struct Vector {
     key0: u64,
     key1: u64,

@@ -1,5 +1,6 @@
 // Runs the published vectors on the machine below the entry points, the examples that are not starred on the calls, the sum of two
 // tags beside that of registers, and Grain v1. Prints a line for each, and the counts.
+#![tactic(auto)]
 mod examples;
 mod grain_v1;
 mod published;

@@ -1,7 +1,7 @@
 // Counts what came out as expected and what did not, with a line for each.
 use libc::STDOUT_FILENO;
 
-#[derive(Drop)]
+#[derive(Clone, Copy)]
 pub struct Tally {
     pub good: u32,
     pub bad: u32,
