@@ -1,0 +1,13 @@
+-- `capi::capturing::tikhoplav_capture_frames` meets its contract.
+use mathlib.Core.Path.{ap, ◌∙◌}
+use mir.Syntax.{w64}
+use mir.ValLaws.{to_z-of_z}
+use Rattle.refusals.specs.declared.Answer.{Answer}
+use Rattle.refusals.specs.Signed.{signed_of, capped}
+use Rattle.captures.proofs.Within.{frames_fits}
+use Rattle.capi.proofs.capturing.tikhoplav_capture_frames.Goals as goal
+
+pub returns : goal.returns
+returns c =
+    to_z-of_z w64 c.signed.result (record { sfits = c.signed.type_inv }) ∙ c.signed.ensures
+    ∙ ap (λ (a : Answer). signed_of (capped a)) c.frames.ensures ∙ ap signed_of (frames_fits c.args.capture.now)

@@ -1,0 +1,15 @@
+-- `capi::framing::tikhoplav_frame_read` meets its contract.
+use mathlib.Core.Path.{◌∙◌}
+use mir.Syntax.{w64}
+use mir.ValLaws.{to_z-of_z}
+use Rattle.refusals.proofs.Returned.{returned}
+use Rattle.machine.specs.declared.edition.Edition.TheVariants.{First}
+use Rattle.frames.specs.Calls.{read}
+use Rattle.capi.proofs.Fits.{read_fits}
+use Rattle.capi.proofs.framing.tikhoplav_frame_read.Goals as goal
+
+pub returns : goal.returns
+returns c =
+    let a = c.args in
+    returned _ _ (read First a.key.now a.nonce.now a.identifier a.code a.field.now a.out.now) _ (to_z-of_z w64 c.signed.result (record { sfits = c.signed.type_inv }) ∙ c.signed.ensures)
+    (read_fits First a.key.now a.nonce.now a.identifier a.code a.field.now a.out.now _ c.read.ensures.1.1.demand2) c.read.ensures.0

@@ -1,0 +1,78 @@
+-- `captures::entries::sound` meets its contract. The loop's invariant: the entries that are left decide what the whole head does.
+use Rattle.std.proofs.Common.{ℕ, ◌+◌, ◌-◌, sym, ap, ◌∙◌, arith}
+use native.Mathlib.Nat.{sub-zero}
+use Rattle.captures.specs.Layout.{head_size, entries_sound}
+use Rattle.captures.proofs.Places.{number_at_bound}
+use Rattle.captures.proofs.Heads.{head-none, head-entries, head_many, head-short, turn_kind, turn_offset, turn, turned}
+use Rattle.captures.proofs.entries.sound.Goals as goal
+
+pub returns-then-s-lt2 : goal.returns-then-s-lt2
+returns-then-s-lt2 c = sym (head-none c.args.s.now c.if-s-lt2.true)
+
+pub count-entries-requires : goal.count-entries-requires
+count-entries-requires c = c.if-s-lt2.false
+
+pub returns-then-entries-gt255 : goal.returns-then-entries-gt255
+returns-then-entries-gt255 c =
+    let s = c.args.s.now in
+    sym (head_many s (rw (← c.count-entries.ensures) c.if-entries-gt255.true))
+
+pub overflow_mul-place : goal.overflow_mul-place
+overflow_mul-place c = record { fits = omega arith }
+
+pub overflow_add-place : goal.overflow_add-place
+overflow_add-place c = record { fits = omega arith }
+
+pub returns-then-s-place : goal.returns-then-s-place
+returns-then-s-place c =
+    let s = c.args.s.now in
+    sym (head-short s (rw (← c.count-entries.ensures) c.if-entries-gt255.false) (rw (← c.count-entries.ensures) c.if-s-place.true))
+
+pub loop-k-init : goal.loop-k-init
+loop-k-init c =
+    let s = c.args.s.now in
+    let n = c.count-entries.result in
+    let e = c.count-entries.ensures in (
+      omega arith,
+      c.if-entries-gt255.false,
+      omega arith,
+      head-entries s (rw (← e) c.if-entries-gt255.false) (rw (← e) c.if-s-place.false) ∙ ap (λ (m : ℕ). entries_sound m 0 (head_size m) s) (sym e) ∙ ap (λ (m : ℕ). entries_sound m 0 (head_size n) s) (sym (sub-zero n)),
+    )
+
+pub returns-then-kind-gt1 : goal.returns-then-kind-gt1
+returns-then-kind-gt1 c =
+    let n = c.count-entries.result in
+    let s = c.args.s.now in
+    sym (c.loop-k.invariant.3 ∙ turn_kind n c.loop-k.k c.loop-k.place s c.loop-k-test.true (rw (← c.kind.ensures) c.if-kind-gt1.true))
+
+pub returns-then-offset-place : goal.returns-then-offset-place
+returns-then-offset-place c =
+    let n = c.count-entries.result in
+    let s = c.args.s.now in
+    sym (c.loop-k.invariant.3 ∙ turn_offset n c.loop-k.k c.loop-k.place s c.loop-k-test.true (rw (← c.kind.ensures) c.if-kind-gt1.false) (rw (← c.offset.ensures) c.if-offset-place.true))
+
+pub overflow_add-place-in-loop-k : goal.overflow_add-place-in-loop-k
+overflow_add-place-in-loop-k c =
+    let s = c.args.s.now in
+    record { fits = omega (arith, c.size-place.ensures, number_at_bound (head_size c.loop-k.k + 1) 3 s) }
+
+pub overflow_add-k : goal.overflow_add-k
+overflow_add-k c = record { fits = omega arith }
+
+pub loop-k-preserved : goal.loop-k-preserved
+loop-k-preserved c =
+    let n = c.count-entries.result in
+    let s = c.args.s.now in (
+      omega arith,
+      c.loop-k.invariant.1,
+      omega (arith, c.size-place.ensures, number_at_bound (head_size c.loop-k.k + 1) 3 s),
+      c.loop-k.invariant.3
+          ∙ turn n c.loop-k.k c.loop-k.place s c.loop-k-test.true (rw (← c.kind.ensures) c.if-kind-gt1.false) (sym c.offset.ensures ∙ c.if-offset-place.false)
+          ∙ ap (λ (size : ℕ). entries_sound (n - (c.loop-k.k + 1)) (c.loop-k.k + 1) (c.loop-k.place + size) s) (sym c.size-place.ensures),
+    )
+
+pub returns : goal.returns
+returns c =
+    let n = c.count-entries.result in
+    let s = c.args.s.now in
+    sym (c.loop-k.invariant.3 ∙ turned n c.loop-k.k c.loop-k.place s c.loop-k.invariant.0 c.loop-k-test.false)

@@ -1,0 +1,78 @@
+-- `frames::by_edition::make` meets its contract.
+use mathlib.Core.Path.{◌≡◌, sym, ap, ◌∙◌, subst}
+use mathlib.Core.List.{List}
+use Prim.Native.Nat.{ℕ, ◌+◌, ◌-◌}
+use native.Mathlib.Omega.{arith}
+use borrow.Rule.Slice.PartMut.{put_mid, same_len_mid}
+use lib.ListN.{length, set}
+use Rattle.refusals.specs.Refusals.{among}
+use Rattle.refusals.specs.Outcome.{Outcome}
+use Rattle.checks.specs.Demand1.{Demand1}
+use Rattle.machine.specs.declared.edition.Edition.{Edition}
+use Rattle.frame_checks.specs.Order as order
+use Rattle.frames.specs.Field.{frame_ad, data_field}
+use Rattle.frames.specs.Calls.{making_rows, made}
+use Rattle.frames.specs.Demand2.{Making}
+use Rattle.frames.proofs.Demand2.{demand1_making, making}
+use Rattle.frames.proofs.Entry.{part_kept, MakeChecked, make_failed, make_clear, make_holds, make_passed}
+use Rattle.frames.proofs.by_edition.make.Goals.{After-judge_making, After-seal, In-Passed}
+use Rattle.frames.proofs.by_edition.make.Goals as goal
+
+-- The call's three clauses from the first of them.
+called : (e : Edition) (key nonce : List ℕ) (identifier : ℕ) (message out : List ℕ) {o : Outcome} → o ≡ made e key nonce identifier message out
+    → (o ≡ made e key nonce identifier message out)
+    × (Demand1 order.making (among (making_rows key nonce identifier message out)) (data_field e key nonce identifier message) out o × Making e key nonce identifier message out o)
+called e key nonce identifier message out is = (
+  is,
+  (
+    subst (Demand1 order.making (among (making_rows key nonce identifier message out)) (data_field e key nonce identifier message) out) (sym is) (demand1_making e key nonce identifier message out),
+    subst (Making e key nonce identifier message out) (sym is) (making e key nonce identifier message out),
+  ),
+)
+
+checked : (j : After-judge_making) →
+    let a = j.args in
+    MakeChecked a.key.now a.nonce.now a.identifier a.message.now a.out.now j.judge_making.result
+checked j = record { checked = j.judge_making.ensures }
+
+-- What is written to the first byte.
+abbrev first : (told : In-Passed) → ℕ
+first told = length told.args.message.now
+
+-- The output with that byte and what sealing has written has its length.
+kept : (s : After-seal) →
+    let a = s.args in
+    length (put_mid 1 (length a.message.now + 9 - 1) (set a.out.now 0 (first s.In-Passed)) s.seal.new.1.1.1.1.1.0) ≡ length a.out.now
+kept s =
+    let a = s.args in
+    part_kept a.out.now (first s.In-Passed) (length a.message.now + 9 - 1) s.seal.new.1.1.1.1.1.0 s.seal.auto.1.1.1.1.1.0
+
+pub overflow_cast-out : goal.overflow_cast-out
+overflow_cast-out c =
+    record { fits = omega (arith, (make_clear (checked (goal.at.overflow_cast-out c).After-judge_making) c.in-Passed.is).message_fits) }
+
+pub bounds-out-0 : goal.bounds-out-0
+bounds-out-0 c =
+    let j = checked (goal.at.bounds-out-0 c).After-judge_making in
+    omega (arith, make_holds j c.in-Passed.is, (make_clear j c.in-Passed.is).fits)
+
+pub slice_bounds-spell-count : goal.slice_bounds-spell-count
+slice_bounds-spell-count c =
+    omega (arith, c.field_size-size.ensures, make_holds (checked (goal.at.slice_bounds-spell-count c).After-judge_making) c.in-Passed.is)
+
+pub returns-in-Failed : goal.returns-in-Failed
+returns-in-Failed c =
+    let a = c.args in
+    called a.edition a.key.now a.nonce.now a.identifier a.message.now a.out.now (make_failed (checked (goal.at.returns-in-Failed c).After-judge_making) a.edition c.in-Failed.is)
+
+pub shape_of-out : goal.shape_of-out
+shape_of-out c =
+    let end = length c.args.message.now + 9 in
+    same_len_mid end (c.field_size-size.result - end) _ c.spell.new.1.0 c.spell.auto.1.0 ∙ kept (goal.at.shape_of-out c).After-seal
+
+pub returns-in-Passed : goal.returns-in-Passed
+returns-in-Passed c =
+    let a = c.args in
+    called a.edition a.key.now a.nonce.now a.identifier a.message.now a.out.now
+    (make_passed (checked (goal.at.returns-in-Passed c).After-judge_making) c.in-Passed.is a.edition c.seal.new.1.1.1.1.1.0 c.spell.new.1.0 c.frame_ad-ad.result c.field_size-size.result
+    (c.frame_ad-ad.ensures ∙ ap (frame_ad a.identifier) c.field_code.ensures) c.field_size-size.ensures c.seal.ensures.0 c.spell.ensures)

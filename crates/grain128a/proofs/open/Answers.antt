@@ -1,0 +1,106 @@
+-- `grain128a::open` meets its contract.
+use mathlib.Core.Path.{◌≡◌, sym, ap, ◌∙◌, subst}
+use mathlib.Core.List.{List}
+use Prim.Native.Nat.{ℕ, ◌+◌, ◌-◌}
+use native.Mathlib.Omega.{arith}
+use lib.Dec.{ltb}
+use lib.ListN.{length}
+use Rattle.bits.specs.Bytes.{Bytes}
+use Rattle.refusals.specs.declared.Check.{Check}
+use Rattle.refusals.specs.Refusals.{among}
+use Rattle.refusals.specs.Outcome.{Outcome}
+use Rattle.limits.specs.Limits.{message_limit}
+use Rattle.checks.specs.Demand1.{Demand1}
+use Rattle.mode_checks.specs.Order.{authenticated}
+use Rattle.tagged.proofs.Entry.{no_room}
+use Rattle.grain128a.specs.Payload.{tag_size}
+use Rattle.grain128a.specs.Calls.{opening_rows, recovered, opened}
+use Rattle.grain128a.specs.Demand2.{Demand2}
+use Rattle.grain128a.specs.Demand3.{Demand3, PastTag}
+use Rattle.grain128a.proofs.Settled.{judgement, opening_judgement}
+use Rattle.grain128a.proofs.Demand2.{demand1_opening, demand2}
+use Rattle.grain128a.proofs.Demand3.{demand3, past-tag}
+use Rattle.grain128a.proofs.Entry.{OpenChecked, Compared, open_failed, open_clear, open_reaches, open_passed, open_differs}
+use Rattle.grain128a.proofs.open.Goals.{After-judge_authenticated, After-number}
+use Rattle.grain128a.proofs.open.Goals as goal
+
+-- The call's five clauses from the first of them.
+called : (w : ℕ) (key nonce input out : List ℕ) {o : Outcome} → Bytes input → o ≡ opened w key nonce input out
+    → (o ≡ opened w key nonce input out)
+    × (Demand1 authenticated (among (opening_rows w key nonce input out)) (recovered w key nonce input) out o
+    × (Demand2 w key nonce input out o × (Demand3 w key nonce input out o × PastTag w key nonce input out o)))
+called w key nonce input out b e = (
+  e,
+  (
+    subst (Demand1 authenticated (among (opening_rows w key nonce input out)) (recovered w key nonce input) out) (sym e) (demand1_opening w key nonce input out),
+    (
+      subst (Demand2 w key nonce input out) (sym e) (demand2 w key nonce input out b),
+      (
+        subst (Demand3 w key nonce input out) (sym e) (demand3 w key nonce input out),
+        subst (PastTag w key nonce input out) (sym e) (past-tag w key nonce input out),
+      ),
+    ),
+  ),
+)
+
+sized : (w : ℕ) (key nonce input lent : List ℕ) (size : ℕ) {c : Check} → size ≡ tag_size w
+    → c ≡ judgement w key nonce (ltb (message_limit + size) (length input)) (ltb (length input) size) (ltb (length lent + size) (length input)) → c ≡ opening_judgement w key nonce input lent
+sized w key nonce input lent size s e =
+    e ∙ ap (judgement w key nonce (ltb (message_limit + size) (length input)) (ltb (length input) size)) (no_room size (length lent) (length input))
+    ∙ ap (λ (k : ℕ). judgement w key nonce (ltb (message_limit + k) (length input)) (ltb (length input) k) (ltb (length lent) (length input - k))) s
+
+checked : (j : After-judge_authenticated) →
+    let a = j.args in
+    OpenChecked a.tag_bits_lem a.key.now a.nonce.now a.input.now a.out.now j.judge_authenticated.result
+unfolding message_limit
+checked j =
+    let a = j.args in
+    record { checked = sized a.tag_bits_lem a.key.now a.nonce.now a.input.now a.out.now j.size-size.result j.size-size.ensures j.judge_authenticated.ensures }
+
+is-bytes : (j : After-judge_authenticated) → Bytes j.args.input.now
+is-bytes j i = omega (arith, j.type_inv.input i)
+
+compared : (n : After-number) →
+    let a = n.args in
+    Compared a.tag_bits_lem a.key.now a.nonce.now a.input.now n.begin-begun.result n.decipher_all-done.result n.finish.result n.number.result
+compared n =
+    let size = n.size-size.ensures in
+    record {
+      is_bytes = is-bytes n.After-judge_authenticated;
+      began = record { cuts = n.begin-begun.ensures };
+      ran = rw size at (rw n.ciphertext_part-ciphertext.ensures at n.decipher_all-done.ensures);
+      tagged = n.finish.ensures;
+      spelled = rw size at (rw n.tag_part.ensures at n.number.ensures);
+    }
+
+pub begin-begun-requires : goal.begin-begun-requires
+begin-begun-requires c =
+    let h = (open_clear (checked (goal.at.begin-begun-requires c).After-judge_authenticated) c.in-Passed.is).common in
+    (h.key_sized, h.nonce_sized)
+
+pub finish-requires : goal.finish-requires
+finish-requires c =
+    (open_clear (checked (goal.at.finish-requires c).After-judge_authenticated) c.in-Passed.is).tag_fits
+
+pub overflow_sub-count : goal.overflow_sub-count
+overflow_sub-count c =
+    omega (arith, open_reaches (checked (goal.at.overflow_sub-count c).After-judge_authenticated) c.in-Passed.is, c.size-size.ensures)
+
+pub returns-in-Failed : goal.returns-in-Failed
+returns-in-Failed c =
+    let a = c.args in
+    called a.tag_bits_lem a.key.now a.nonce.now a.input.now a.out.now (is-bytes (goal.at.returns-in-Failed c).After-judge_authenticated) (open_failed (checked (goal.at.returns-in-Failed c).After-judge_authenticated) c.in-Failed.is)
+
+pub returns-then-finish-number : goal.returns-then-finish-number
+returns-then-finish-number c =
+    let a = c.args in
+    let size = c.size-size.ensures in
+    called a.tag_bits_lem a.key.now a.nonce.now a.input.now a.out.now (is-bytes (goal.at.returns-then-finish-number c).In-Passed-1)
+    (rw size
+    (open_passed (checked (goal.at.returns-then-finish-number c).In-Passed-1) c.in-Passed.is (compared (goal.at.returns-then-finish-number c).Then-finish-number) c.if-finish-number.true
+    (rw size at (rw c.ciphertext_part-ciphertext.ensures at c.add_keystream.ensures))))
+
+pub returns-else-finish-number : goal.returns-else-finish-number
+returns-else-finish-number c =
+    let a = c.args in
+    called a.tag_bits_lem a.key.now a.nonce.now a.input.now a.out.now (is-bytes (goal.at.returns-else-finish-number c).After-judge_authenticated) (open_differs (checked (goal.at.returns-else-finish-number c).After-judge_authenticated) c.in-Passed.is (compared (goal.at.returns-else-finish-number c).After-number) c.if-finish-number.false)

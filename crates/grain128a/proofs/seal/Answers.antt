@@ -1,0 +1,69 @@
+-- `grain128a::seal` meets its contract.
+use mathlib.Core.Path.{◌≡◌, sym, subst}
+use mathlib.Core.List.{List}
+use Prim.Native.Nat.{ℕ, ◌+◌, ◌≤◌}
+use native.Mathlib.Omega.{arith}
+use lib.ListN.{length}
+use Rattle.bits.proofs.Written.{word-written}
+use Rattle.refusals.specs.Refusals.{among}
+use Rattle.refusals.specs.Outcome.{Outcome}
+use Rattle.limits.specs.Limits.{message_limit}
+use Rattle.checks.specs.Demand1.{Demand1}
+use Rattle.mode_checks.specs.Order.{authenticated}
+use Rattle.grain128a.specs.Payload.{tag_size, payload}
+use Rattle.grain128a.specs.Calls.{sealing_rows, sealed}
+use Rattle.grain128a.specs.Demand2.{Legal, Sealing}
+use Rattle.grain128a.proofs.Demand2.{demand1_sealing, sealing}
+use Rattle.grain128a.proofs.Entry.{SealChecked, seal_failed, seal_legal, seal_passed}
+use Rattle.grain128a.proofs.seal.Goals.{After-encipher_all-done, After-judge_authenticated}
+use Rattle.grain128a.proofs.seal.Goals as goal
+
+-- The call's three clauses from the first of them.
+called : (w : ℕ) (key nonce message out : List ℕ) {o : Outcome} → o ≡ sealed w key nonce message out
+    → (o ≡ sealed w key nonce message out)
+    × (Demand1 authenticated (among (sealing_rows w key nonce message out)) (payload w key nonce message) out o × Sealing w key nonce message out o)
+called w key nonce message out e = (
+  e,
+  (
+    subst (Demand1 authenticated (among (sealing_rows w key nonce message out)) (payload w key nonce message) out) (sym e) (demand1_sealing w key nonce message out),
+    subst (Sealing w key nonce message out) (sym e) (sealing w key nonce message out),
+  ),
+)
+
+checked : (j : After-judge_authenticated) →
+    let a = j.args in
+    SealChecked a.tag_bits_lem a.key.now a.nonce.now a.message.now a.out.now j.judge_authenticated.result
+unfolding message_limit
+checked j = record { checked = rw j.size-size.ensures at j.judge_authenticated.ensures }
+
+pub begin-begun-requires : goal.begin-begun-requires
+begin-begun-requires c =
+    let h = (seal_legal (checked (goal.at.begin-begun-requires c).After-judge_authenticated) c.in-Passed.is).0.common in
+    (h.key_sized, h.nonce_sized)
+
+-- All is legal, and there is room for the payload.
+legal : (w : After-encipher_all-done) →
+    let a = w.args in
+    Legal a.tag_bits_lem a.key.now a.nonce.now a.message.now × (length a.message.now + tag_size a.tag_bits_lem ≤ length a.out.now)
+legal w = seal_legal (checked w.After-judge_authenticated) w.in-Passed.is
+
+pub overflow_add-end : goal.overflow_add-end
+overflow_add-end c =
+    omega (arith, (legal (goal.at.overflow_add-end c).After-encipher_all-done).1, c.size-size.ensures, c.well-formed)
+
+pub finish-requires : goal.finish-requires
+finish-requires c = (legal (goal.at.finish-requires c).After-encipher_all-done).0.tag_fits
+
+pub returns-in-Failed : goal.returns-in-Failed
+returns-in-Failed c =
+    let a = c.args in
+    called a.tag_bits_lem a.key.now a.nonce.now a.message.now a.out.now (seal_failed (checked (goal.at.returns-in-Failed c).After-judge_authenticated) c.in-Failed.is)
+
+pub returns-in-Passed : goal.returns-in-Passed
+returns-in-Passed c =
+    let a = c.args in
+    let size = c.size-size.ensures in
+    called a.tag_bits_lem a.key.now a.nonce.now a.message.now a.out.now
+    (rw size
+    (seal_passed (checked (goal.at.returns-in-Passed c).After-judge_authenticated) c.in-Passed.is (record { cuts = c.begin-begun.ensures }) c.encipher_all-done.ensures c.finish.ensures
+    (rw size at (word-written _ (length a.message.now) c.size-size.result c.finish.result (omega (arith, c.encipher_all-done.auto, (legal (goal.at.returns-in-Passed c).After-encipher_all-done).1, size)) c.spell.ensures))))

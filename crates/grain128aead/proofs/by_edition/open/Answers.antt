@@ -1,0 +1,98 @@
+-- `grain128aead::by_edition::open` meets its contract.
+use mathlib.Core.Path.{◌≡◌, sym, ap, ◌∙◌, subst}
+use mathlib.Core.List.{List}
+use Prim.Native.Nat.{ℕ, ◌+◌}
+use native.Mathlib.Omega.{arith}
+use lib.Dec.{ltb}
+use lib.ListN.{length}
+use Rattle.bits.specs.Bytes.{Bytes}
+use Rattle.refusals.specs.declared.Check.{Check}
+use Rattle.refusals.specs.Outcome.{Outcome}
+use Rattle.machine.specs.declared.edition.Edition.{Edition}
+use Rattle.tagged.proofs.Entry.{no_room}
+use Rattle.payload.specs.Sizes.{tag_size}
+use Rattle.limits.specs.Limits.{message_limit}
+use Rattle.grain128aead.specs.Sizes.{ad_limit}
+use Rattle.checks.specs.Order.{order}
+use Rattle.grain128aead.specs.Calls.{opening_row, recovered, opened}
+use Rattle.checks.specs.Demand1.{Demand1}
+use Rattle.grain128aead.specs.Demand2.{Demand2}
+use Rattle.grain128aead.specs.Demand3.{Demand3}
+use Rattle.grain128aead.specs.Substitution.{Substitution}
+use Rattle.grain128aead.proofs.Demand2.{demand1_opening, demand2}
+use Rattle.grain128aead.proofs.Demand3.{demand3}
+use Rattle.grain128aead.proofs.Substitution.{substitution}
+use Rattle.grain128aead.proofs.Entry.{OpenChecked, Compared, open_failed, open_clear, open_reaches, open_passed, open_differs}
+use Rattle.grain128aead.proofs.Settled.{judgement, opening_judgement}
+use Rattle.grain128aead.proofs.by_edition.open.Goals.{After-judge, After-number}
+use Rattle.grain128aead.proofs.by_edition.open.Goals as goal
+
+-- The call's five clauses from the first of them.
+called : (ed : Edition) (key nonce ad input out : List ℕ) {o : Outcome} → Bytes input → o ≡ opened ed key nonce ad input out
+    → (o ≡ opened ed key nonce ad input out)
+    × (Demand1 order (opening_row ed key nonce ad input out) (recovered ed key nonce ad input) out o × (Demand2 ed key nonce ad input out o × (Demand3 ed key nonce ad input out o × Substitution ed key nonce ad input out o)))
+called ed key nonce ad input out b e = (
+  e,
+  (
+    subst (Demand1 order (opening_row ed key nonce ad input out) (recovered ed key nonce ad input) out) (sym e) (demand1_opening ed key nonce ad input out),
+    (
+      subst (Demand2 ed key nonce ad input out) (sym e) (demand2 ed key nonce ad input out b),
+      (
+        subst (Demand3 ed key nonce ad input out) (sym e) (demand3 ed key nonce ad input out),
+        subst (Substitution ed key nonce ad input out) (sym e) (substitution ed key nonce ad input out b),
+      ),
+    ),
+  ),
+)
+
+sized : (key nonce ad input lent : List ℕ) {c : Check} → c ≡ judgement key nonce ad (ltb (message_limit + tag_size) (length input)) (ltb (length input) tag_size) (ltb (length lent + 8) (length input)) → c ≡ opening_judgement key nonce ad input lent
+sized key nonce ad input lent e = e ∙ ap (judgement key nonce ad (ltb (message_limit + tag_size) (length input)) (ltb (length input) tag_size)) (no_room tag_size (length lent) (length input))
+
+checked : (j : After-judge) →
+    let a = j.args in
+    OpenChecked a.key.now a.nonce.now a.ad.now a.input.now a.out.now j.judge.result
+unfolding ad_limit message_limit
+checked j =
+    let a = j.args in
+    record { checked = sized a.key.now a.nonce.now a.ad.now a.input.now a.out.now j.judge.ensures }
+
+is-bytes : (j : After-judge) → Bytes j.args.input.now
+is-bytes j i = omega (arith, j.type_inv.input i)
+
+compared : (n : After-number) →
+    let a = n.args in
+    Compared a.edition a.key.now a.nonce.now a.ad.now a.input.now n.begin-begun.result n.decipher_all-done.result n.finish.result n.number.result
+compared n =
+    record {
+      is_bytes = is-bytes n.After-judge;
+      began = n.begin-begun.ensures;
+      ran = rw n.ciphertext_part-ciphertext.ensures at n.decipher_all-done.ensures;
+      tagged = n.finish.ensures;
+      small = omega (arith, n.finish.type_inv);
+      spelled = rw n.tag_part.ensures at n.number.ensures;
+    }
+
+pub begin-begun-requires : goal.begin-begun-requires
+begin-begun-requires c =
+    let h = open_clear (checked (goal.at.begin-begun-requires c).After-judge) c.in-Passed.is in
+    (h.key_sized, h.nonce_sized)
+
+pub overflow_sub-count : goal.overflow_sub-count
+overflow_sub-count c =
+    omega (arith, open_reaches (checked (goal.at.overflow_sub-count c).After-judge) c.in-Passed.is)
+
+pub returns-in-Failed : goal.returns-in-Failed
+returns-in-Failed c =
+    let a = c.args in
+    called a.edition a.key.now a.nonce.now a.ad.now a.input.now a.out.now (is-bytes (goal.at.returns-in-Failed c).After-judge) (open_failed (checked (goal.at.returns-in-Failed c).After-judge) a.edition c.in-Failed.is)
+
+pub returns-then-finish-number : goal.returns-then-finish-number
+returns-then-finish-number c =
+    let a = c.args in
+    called a.edition a.key.now a.nonce.now a.ad.now a.input.now a.out.now (is-bytes (goal.at.returns-then-finish-number c).After-judge)
+    (open_passed (checked (goal.at.returns-then-finish-number c).After-judge) c.in-Passed.is (compared (goal.at.returns-then-finish-number c).After-number) c.if-finish-number.true (rw c.ciphertext_part-ciphertext.ensures at c.add_keystream.ensures))
+
+pub returns-else-finish-number : goal.returns-else-finish-number
+returns-else-finish-number c =
+    let a = c.args in
+    called a.edition a.key.now a.nonce.now a.ad.now a.input.now a.out.now (is-bytes (goal.at.returns-else-finish-number c).After-judge) (open_differs (checked (goal.at.returns-else-finish-number c).After-judge) c.in-Passed.is (compared (goal.at.returns-else-finish-number c).After-number) c.if-finish-number.false)

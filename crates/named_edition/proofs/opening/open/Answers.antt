@@ -1,0 +1,56 @@
+-- `named_edition::opening::open` meets its contract.
+use mathlib.Core.Path.{◌≡◌, sym, ap, ◌∙◌, subst}
+use mathlib.Core.List.{List}
+use Prim.Native.Nat.{ℕ}
+use native.Mathlib.Omega.{arith}
+use borrow.Author.Tests.{not-true, not-false}
+use Rattle.bits.specs.Bytes.{Bytes}
+use Rattle.refusals.specs.Outcome.{Outcome}
+use Rattle.refusals.specs.Refusals.{among}
+use Rattle.machine.specs.declared.edition.Edition.{Edition}
+use Rattle.startup.specs.Naming as naming
+use Rattle.grain128aead.specs.Calls as calls
+use Rattle.checks.specs.Demand1.{Demand1}
+use Rattle.grain128aead.specs.Demand2.{Demand2}
+use Rattle.grain128aead.specs.Demand3.{Demand3}
+use Rattle.grain128aead.specs.Substitution.{Substitution}
+use Rattle.named_edition.specs.Calls.{order, opening_rows, opened, InNamed}
+use Rattle.named_edition.proofs.Calls.{opened_unknown, opened-known, demand1_opening, demand2, demand3, substitution}
+use Rattle.named_edition.proofs.opening.open.Goals.{After-known}
+use Rattle.named_edition.proofs.opening.open.Goals as goal
+
+-- The call's five clauses from the first of them.
+called : (n : ℕ) (key nonce ad input out : List ℕ) {o : Outcome} → Bytes input → o ≡ opened n key nonce ad input out
+    → (o ≡ opened n key nonce ad input out)
+    × (Demand1 order (among (opening_rows n key nonce ad input out)) (calls.recovered (naming.named n) key nonce ad input) out o
+    × (InNamed n (λ e. Demand2 e key nonce ad input out o) × (InNamed n (λ e. Demand3 e key nonce ad input out o) × InNamed n (λ e. Substitution e key nonce ad input out o))))
+called n key nonce ad input out b e = (
+  e,
+  (
+    subst (Demand1 order (among (opening_rows n key nonce ad input out)) (calls.recovered (naming.named n) key nonce ad input) out) (sym e) (demand1_opening n key nonce ad input out),
+    (
+      subst (λ (o : Outcome). InNamed n (λ v. Demand2 v key nonce ad input out o)) (sym e) (demand2 n key nonce ad input out b),
+      (
+        subst (λ (o : Outcome). InNamed n (λ v. Demand3 v key nonce ad input out o)) (sym e) (demand3 n key nonce ad input out),
+        subst (λ (o : Outcome). InNamed n (λ v. Substitution v key nonce ad input out o)) (sym e) (substitution n key nonce ad input out b),
+      ),
+    ),
+  ),
+)
+
+is-bytes : (k : After-known) → Bytes k.args.input.now
+is-bytes k i = omega (arith, k.type_inv.input i)
+
+pub returns-then-not-known : goal.returns-then-not-known
+returns-then-not-known c =
+    let a = c.args in
+    called a.edition a.key.now a.nonce.now a.ad.now a.input.now a.out.now (is-bytes (goal.at.returns-then-not-known c).After-known)
+    (opened_unknown a.edition a.key.now a.nonce.now a.ad.now a.input.now a.out.now (sym c.known.ensures ∙ not-true _ c.if-not-known.true))
+
+pub returns : goal.returns
+returns c =
+    let a = c.args in
+    called a.edition a.key.now a.nonce.now a.ad.now a.input.now a.out.now (is-bytes (goal.at.returns c).After-known)
+    ((goal.at.returns c).After-open.«open».ensures.0
+    ∙ ap (λ (v : Edition). calls.opened v a.key.now a.nonce.now a.ad.now a.input.now a.out.now) c.named.ensures
+    ∙ opened-known a.edition a.key.now a.nonce.now a.ad.now a.input.now a.out.now (sym c.known.ensures ∙ not-false _ c.if-not-known.false))

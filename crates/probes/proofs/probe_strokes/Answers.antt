@@ -1,0 +1,9 @@
+-- `probes::probe_strokes` meets its contract.
+use mathlib.Core.Path.{ap}
+use Rattle.generators.specs.Running.{Running}
+use Rattle.preoutput.specs.Running.{running_of}
+use Rattle.probes.proofs.probe_strokes.Goals as goal
+
+pub returns : goal.returns
+unfolding running_of
+returns c = ap (λ (r : Running). r.outputs) (rw c.begun.ensures at c.run-r.ensures)

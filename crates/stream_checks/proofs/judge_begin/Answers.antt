@@ -1,0 +1,13 @@
+-- `stream_checks::judge_begin` meets its contract.
+use Rattle.refusals.specs.Refusals.{among}
+use Rattle.refusals.proofs.Rows.{check-in_order}
+use Rattle.stream_checks.specs.Order.{beginning}
+use Rattle.stream_checks.specs.Rows.{begin_rows}
+use Rattle.stream_checks.proofs.judge_begin.Goals as goal
+
+pub returns : goal.returns
+unfolding beginning begin_rows among
+returns c =
+    let a = c.args in
+    rw (c.after.ensures, c.after-c-5.ensures, c.after-c-4.ensures, c.after-c-3.ensures, c.after-c-2.ensures, c.after-c.ensures, c.is_blank-blank.ensures)
+    (check-in_order (among (begin_rows a.unknown a.key.now a.nonce.now a.announced a.limit a.size)) beginning)

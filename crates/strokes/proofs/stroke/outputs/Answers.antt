@@ -1,0 +1,7 @@
+-- `strokes::stroke::outputs` meets its contract.
+use Rattle.strokes.proofs.WindowBits.{outputs-listed}
+use Rattle.strokes.proofs.stroke.outputs.Goals as goal
+
+pub returns : goal.returns
+returns c =
+    rw c.output.ensures (outputs-listed c.args.g c.slide-s32.result c.slide-b32.result c.slide-s32.ensures c.slide-b32.ensures)
