@@ -36,5 +36,6 @@ returns-else-n-lt9223372036854775808 c =
 pub returns-in-Refused : goal.returns-in-Refused
 returns-in-Refused c =
     let h = small c.number.type_inv in
-    to_z-of_z w64 _ (sub-result (goal.at.returns-in-Refused c).After-number) ∙ negated c.number.result h
+    let fits : SFits w64 (pos 0 -ℤ to_z w64 c.number.result) = rw (negated c.number.result h) (negated_fits c.number.result h) in
+    to_z-of_z w64 _ fits ∙ negated c.number.result h
     ∙ ap (λ (n : ℕ). neg_ℤ (pos n)) c.number.ensures ∙ sym (ap (λ (b : Answer). signed_of (capped b)) c.in-Refused.is)

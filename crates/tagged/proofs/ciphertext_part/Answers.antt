@@ -10,7 +10,7 @@ use Rattle.tagged.proofs.ciphertext_part.Goals as goal
 
 pub slice_bounds-result-end : goal.slice_bounds-result-end
 slice_bounds-result-end c =
-    sym (length-take-le _ c.args.input.now (⊎_elim (λ w. omega (arith, w.1)) (λ w. omega (arith, w.1)) c.if1.branch))
+    sym (length-take-le _ c.args.input.now (⊎_elim (λ w. omega (arith, w.1)) (λ w. omega (arith, w.1)) c.if-n-size.branch))
 
 pub returns : goal.returns
 returns c =
@@ -19,4 +19,4 @@ returns c =
     ⊎_elim
     (λ w. ap (λ (end : ℕ). take end s) w.1 ∙ take_all (length s) s (omega arith) ∙ sym (ciphertext_part-short size s (omega (arith, w.0.taken))))
     (λ w. ap (λ (end : ℕ). take end s) w.1 ∙ sym (ciphertext_part_is size s (omega (arith, w.0.left))))
-    c.if1.branch
+    c.if-n-size.branch

@@ -11,7 +11,7 @@ pub slice_bounds-result-end : goal.slice_bounds-result-end
 slice_bounds-result-end c = sym (length-take-le _ c.args.input.now (omega arith))
 
 pub returns-then-n-size : goal.returns-then-n-size
-returns-then-n-size c = sym (tag_part-short _ _ (omega (arith, c.if1.true)))
+returns-then-n-size c = sym (tag_part-short _ _ (omega (arith, c.if-n-size.true)))
 
 pub returns : goal.returns
 returns c =

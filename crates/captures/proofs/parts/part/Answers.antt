@@ -7,7 +7,7 @@ use Rattle.captures.proofs.parts.part.Goals as goal
 pub returns-then-s-at : goal.returns-then-s-at
 returns-then-s-at c =
     let a = c.args in
-    sym (ap (take a.n) (drop_of_length-le a.s.now c.if1.true) ∙ take-nil a.n)
+    sym (ap (take a.n) (drop_of_length-le a.s.now c.if-s-at.true) ∙ take-nil a.n)
 
 pub returns-then-s-at-2 : goal.returns-then-s-at-2
 returns-then-s-at-2 c =
