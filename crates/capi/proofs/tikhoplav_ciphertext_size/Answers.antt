@@ -15,4 +15,4 @@ pub returns : goal.returns
 returns c =
     let s = c.args.sealed.now in
     ap (λ (part : List ℕ). to_z w64 (length part)) c.ciphertext_part-part.ensures
-    ∙ to_z_pos w64 (length (ciphertext_part s)) (omega (arith, (parts s).lengths, c.well-formed.0.1))
+    ∙ to_z_pos w64 (length (ciphertext_part s)) (omega (arith, (parts s).lengths, c.well_formed.0.1))

@@ -51,18 +51,18 @@ sized w key nonce input lent size s e =
 
 checked : (j : After-judge_authenticated) →
     let a = j.args in
-    OpenChecked a.tag_bits_lem a.key.now a.nonce.now a.input.now a.out.now j.judge_authenticated.result
+    OpenChecked a.tag_bits a.key.now a.nonce.now a.input.now a.out.now j.judge_authenticated.result
 unfolding message_limit
 checked j =
     let a = j.args in
-    record { checked = sized a.tag_bits_lem a.key.now a.nonce.now a.input.now a.out.now j.size-size.result j.size-size.ensures j.judge_authenticated.ensures }
+    record { checked = sized a.tag_bits a.key.now a.nonce.now a.input.now a.out.now j.size-size.result j.size-size.ensures j.judge_authenticated.ensures }
 
 is-bytes : (j : After-judge_authenticated) → Bytes j.args.input.now
 is-bytes j i = omega (arith, j.type_inv.input i)
 
 compared : (n : After-number) →
     let a = n.args in
-    Compared a.tag_bits_lem a.key.now a.nonce.now a.input.now n.begin-begun.result n.decipher_all-done.result n.finish.result n.number.result
+    Compared a.tag_bits a.key.now a.nonce.now a.input.now n.begin-begun.result n.decipher_all-done.result n.finish.result n.number.result
 compared n =
     let size = n.size-size.ensures in
     record {
@@ -89,18 +89,18 @@ overflow_sub-count c =
 pub returns-in-Failed : goal.returns-in-Failed
 returns-in-Failed c =
     let a = c.args in
-    called a.tag_bits_lem a.key.now a.nonce.now a.input.now a.out.now (is-bytes (goal.at.returns-in-Failed c).After-judge_authenticated) (open_failed (checked (goal.at.returns-in-Failed c).After-judge_authenticated) c.in-Failed.is)
+    called a.tag_bits a.key.now a.nonce.now a.input.now a.out.now (is-bytes (goal.at.returns-in-Failed c).After-judge_authenticated) (open_failed (checked (goal.at.returns-in-Failed c).After-judge_authenticated) c.in-Failed.is)
 
 pub returns-then-finish-number : goal.returns-then-finish-number
 returns-then-finish-number c =
     let a = c.args in
     let size = c.size-size.ensures in
-    called a.tag_bits_lem a.key.now a.nonce.now a.input.now a.out.now (is-bytes (goal.at.returns-then-finish-number c).In-Passed-1)
+    called a.tag_bits a.key.now a.nonce.now a.input.now a.out.now (is-bytes (goal.at.returns-then-finish-number c).After-judge_authenticated)
     (rw size
-    (open_passed (checked (goal.at.returns-then-finish-number c).In-Passed-1) c.in-Passed.is (compared (goal.at.returns-then-finish-number c).Then-finish-number) c.if-finish-number.true
+    (open_passed (checked (goal.at.returns-then-finish-number c).After-judge_authenticated) c.in-Passed.is (compared (goal.at.returns-then-finish-number c).After-number) c.if-finish-number.true
     (rw size at (rw c.ciphertext_part-ciphertext.ensures at c.add_keystream.ensures))))
 
 pub returns-else-finish-number : goal.returns-else-finish-number
 returns-else-finish-number c =
     let a = c.args in
-    called a.tag_bits_lem a.key.now a.nonce.now a.input.now a.out.now (is-bytes (goal.at.returns-else-finish-number c).After-judge_authenticated) (open_differs (checked (goal.at.returns-else-finish-number c).After-judge_authenticated) c.in-Passed.is (compared (goal.at.returns-else-finish-number c).After-number) c.if-finish-number.false)
+    called a.tag_bits a.key.now a.nonce.now a.input.now a.out.now (is-bytes (goal.at.returns-else-finish-number c).After-judge_authenticated) (open_differs (checked (goal.at.returns-else-finish-number c).After-judge_authenticated) c.in-Passed.is (compared (goal.at.returns-else-finish-number c).After-number) c.if-finish-number.false)

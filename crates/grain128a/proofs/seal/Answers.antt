@@ -32,7 +32,7 @@ called w key nonce message out e = (
 
 checked : (j : After-judge_authenticated) →
     let a = j.args in
-    SealChecked a.tag_bits_lem a.key.now a.nonce.now a.message.now a.out.now j.judge_authenticated.result
+    SealChecked a.tag_bits a.key.now a.nonce.now a.message.now a.out.now j.judge_authenticated.result
 unfolding message_limit
 checked j = record { checked = rw j.size-size.ensures at j.judge_authenticated.ensures }
 
@@ -44,12 +44,12 @@ begin-begun-requires c =
 -- All is legal, and there is room for the payload.
 legal : (w : After-encipher_all-done) →
     let a = w.args in
-    Legal a.tag_bits_lem a.key.now a.nonce.now a.message.now × (length a.message.now + tag_size a.tag_bits_lem ≤ length a.out.now)
+    Legal a.tag_bits a.key.now a.nonce.now a.message.now × (length a.message.now + tag_size a.tag_bits ≤ length a.out.now)
 legal w = seal_legal (checked w.After-judge_authenticated) w.in-Passed.is
 
 pub overflow_add-end : goal.overflow_add-end
 overflow_add-end c =
-    omega (arith, (legal (goal.at.overflow_add-end c).After-encipher_all-done).1, c.size-size.ensures, c.well-formed)
+    omega (arith, (legal (goal.at.overflow_add-end c).After-encipher_all-done).1, c.size-size.ensures, c.well_formed)
 
 pub finish-requires : goal.finish-requires
 finish-requires c = (legal (goal.at.finish-requires c).After-encipher_all-done).0.tag_fits
@@ -57,13 +57,13 @@ finish-requires c = (legal (goal.at.finish-requires c).After-encipher_all-done).
 pub returns-in-Failed : goal.returns-in-Failed
 returns-in-Failed c =
     let a = c.args in
-    called a.tag_bits_lem a.key.now a.nonce.now a.message.now a.out.now (seal_failed (checked (goal.at.returns-in-Failed c).After-judge_authenticated) c.in-Failed.is)
+    called a.tag_bits a.key.now a.nonce.now a.message.now a.out.now (seal_failed (checked (goal.at.returns-in-Failed c).After-judge_authenticated) c.in-Failed.is)
 
 pub returns-in-Passed : goal.returns-in-Passed
 returns-in-Passed c =
     let a = c.args in
     let size = c.size-size.ensures in
-    called a.tag_bits_lem a.key.now a.nonce.now a.message.now a.out.now
+    called a.tag_bits a.key.now a.nonce.now a.message.now a.out.now
     (rw size
     (seal_passed (checked (goal.at.returns-in-Passed c).After-judge_authenticated) c.in-Passed.is (record { cuts = c.begin-begun.ensures }) c.encipher_all-done.ensures c.finish.ensures
     (rw size at (word-written _ (length a.message.now) c.size-size.result c.finish.result (omega (arith, c.encipher_all-done.auto, (legal (goal.at.returns-in-Passed c).After-encipher_all-done).1, size)) c.spell.ensures))))

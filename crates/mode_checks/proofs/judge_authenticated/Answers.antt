@@ -12,4 +12,4 @@ unfolding before_tag common authenticated_rows common_rows among
 returns c =
     let a = c.args in
     rw (c.after.ensures, c.after-c-3.ensures, c.after-c-2.ensures, c.after-c.ensures, c.judge_common-c.ensures ∙ sym (check-in_order (among (common_rows a.key.now a.nonce.now true)) common))
-    (check-in_order (among (authenticated_rows a.key.now a.nonce.now a.tag_bits_lem a.too_long a.too_short a.no_room false)) before_tag)
+    (check-in_order (among (authenticated_rows a.key.now a.nonce.now a.tag_bits a.too_long a.too_short a.no_room false)) before_tag)

@@ -50,7 +50,7 @@ room : (w : After-encipher_all-done) →
 room w = seal_room (checked w.After-judge) w.in-Passed.is
 
 pub overflow_add-end : goal.overflow_add-end
-overflow_add-end c = omega (arith, room (goal.at.overflow_add-end c).After-encipher_all-done, c.well-formed)
+overflow_add-end c = omega (arith, room (goal.at.overflow_add-end c).After-encipher_all-done, c.well_formed)
 
 pub returns-in-Failed : goal.returns-in-Failed
 returns-in-Failed c =

@@ -12,10 +12,10 @@ loop-left-init c = refl
 pub loop-left-preserved : goal.loop-left-preserved
 loop-left-preserved c =
     let l = c.loop-left in
-    clocks_less grain128 l.left 1 (to_lfsr l.to-add) (to_nfsr l.to-add) (running_of l.now) c.loop-left-test.true
-    (c.next-now.ensures ∙ clocks_one grain128 (to_lfsr l.to-add) (to_nfsr l.to-add) (running_of l.now)) c.left-to_add.ensures.lfsr c.left-to_add.ensures.nfsr l.invariant
+    clocks_less grain128 l.left 1 (to_lfsr l.to_add) (to_nfsr l.to_add) (running_of l.now) c.loop-left-test.true
+    (c.next-now.ensures ∙ clocks_one grain128 (to_lfsr l.to_add) (to_nfsr l.to_add) (running_of l.now)) c.left-to_add.ensures.lfsr c.left-to_add.ensures.nfsr l.invariant
 
 pub returns : goal.returns
 returns c =
     let l = c.loop-left in
-    clocks-none grain128 l.left (to_lfsr l.to-add) (to_nfsr l.to-add) (running_of l.now) (omega arith) l.invariant
+    clocks-none grain128 l.left (to_lfsr l.to_add) (to_nfsr l.to_add) (running_of l.now) (omega arith) l.invariant

@@ -9,7 +9,7 @@ use Rattle.strokes.proofs.stroke.stroke.Goals as goal
 pub returns : goal.returns
 returns c =
     let within : c.args.n % 64 ≡ c.args.n = mod-eq_of_lt (omega (arith, c.requires)) in
-    stroke_words c.args.g c.args.n c.args.to-lfsr c.args.to-nfsr c.lfsr_bits.result c.nfsr_bits.result _ c.requires
+    stroke_words c.args.g c.args.n c.args.to_lfsr c.args.to_nfsr c.lfsr_bits.result c.nfsr_bits.result _ c.requires
     record {
       lfsr0 = rw within at c.slide.ensures;
       lfsr1 = rw within at c.slide-2.ensures;
