@@ -1,7 +1,6 @@
 -- `machine::engine::crypt_byte` meets its contract.
 use mathlib.Core.Path.{ap, ◌∙◌}
 use mathlib.Core.Bool.{true, false}
-use mathlib.Core.Logic.{⊎_elim}
 use Prim.Native.Nat.{◌%◌}
 use native.Mathlib.Nat.{mod-lt}
 use native.Mathlib.Omega.{arith}
@@ -12,6 +11,7 @@ use Rattle.machine.specs.Machine.{run}
 use Rattle.machine.specs.Engine.{state_of}
 use Rattle.machine.proofs.Bitwise.{bits-keystream, bits-crypt, word_remainder, taken}
 use Rattle.machine.proofs.engine.crypt_byte.Goals as goal
+use Rattle.machine.proofs.engine.crypt_byte.Goals.{then-sealing, else-sealing}
 
 pub returns : goal.returns
 returns c =
@@ -23,5 +23,8 @@ returns c =
       engine =
           c.after.ensures
           ∙ ap (run (state_of a.e))
-          (⊎_elim (λ w. taken 8 a.sealing true a.x _ _ w.0.taken w.1) (λ w. taken 8 a.sealing false a.x _ _ w.0.left w.1) c.if-sealing.branch);
+          (elim c.if-sealing.branch [
+              then-sealing w ↦ taken 8 a.sealing true a.x _ _ w.if-sealing.true w.m-is
+            | else-sealing w ↦ taken 8 a.sealing false a.x _ _ w.if-sealing.false w.m-is
+          ]);
     }
