@@ -10,5 +10,5 @@ use Rattle.strings.proofs.add_fitting.Goals as goal
 pub returns : goal.returns
 returns c =
     let s = c.args.s.now in
-    let mid = c.add_words-words.new.1.1.1.1.0 in
+    let mid = c.add_words-words.new.out in
     (adds-pieces c.args.edition (words-and-bytes s) c.add_words-words.ensures (rw (part_to_end s _, part_to_end mid _) at c.add_bytes.ensures) (rest-written mid (length s / 4 * 4) _)).written

@@ -42,10 +42,10 @@ first told = length told.args.message.now
 -- The output with that byte and what sealing has written has its length.
 kept : (s : After-seal) →
     let a = s.args in
-    length (put_mid 1 (length a.message.now + 9 - 1) (set a.out.now 0 (first s.In-Passed)) s.seal.new.1.1.1.1.1.0) ≡ length a.out.now
+    length (put_mid 1 (length a.message.now + 9 - 1) (set a.out.now 0 (first s.In-Passed)) s.seal.new.out) ≡ length a.out.now
 kept s =
     let a = s.args in
-    part_kept a.out.now (first s.In-Passed) (length a.message.now + 9 - 1) s.seal.new.1.1.1.1.1.0 s.seal.auto.1.1.1.1.1.0
+    part_kept a.out.now (first s.In-Passed) (length a.message.now + 9 - 1) s.seal.new.out s.seal.auto.out
 
 pub overflow_cast-out : goal.overflow_cast-out
 overflow_cast-out c =
@@ -68,11 +68,11 @@ returns-in-Failed c =
 pub shape_of-out : goal.shape_of-out
 shape_of-out c =
     let end = length c.args.message.now + 9 in
-    same_len_mid end (c.field_size-size.result - end) _ c.spell.new.1.0 c.spell.auto.1.0 ∙ kept (goal.at.shape_of-out c).After-seal
+    same_len_mid end (c.field_size-size.result - end) _ c.spell.new.out c.spell.auto.out ∙ kept (goal.at.shape_of-out c).After-seal
 
 pub returns-in-Passed : goal.returns-in-Passed
 returns-in-Passed c =
     let a = c.args in
     called a.edition a.key.now a.nonce.now a.identifier a.message.now a.out.now
-    (make_passed (checked (goal.at.returns-in-Passed c).After-judge_making) c.in-Passed.is a.edition c.seal.new.1.1.1.1.1.0 c.spell.new.1.0 c.frame_ad-ad.result c.field_size-size.result
+    (make_passed (checked (goal.at.returns-in-Passed c).After-judge_making) c.in-Passed.is a.edition c.seal.new.out c.spell.new.out c.frame_ad-ad.result c.field_size-size.result
     (c.frame_ad-ad.ensures ∙ ap (frame_ad a.identifier) c.field_code.ensures) c.field_size-size.ensures c.seal.ensures.0 c.spell.ensures)

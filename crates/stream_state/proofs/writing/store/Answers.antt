@@ -17,7 +17,7 @@ loop-i-preserved c =
     let l = c.loop-i in
     let a = c.args in (
       omega arith,
-      same_len_mid (l.i * 8) (l.i * 8 + 8 - l.i * 8) l.state c.spell.new.1.0 c.spell.auto.1.0 ∙ l.invariant.1,
+      same_len_mid (l.i * 8) (l.i * 8 + 8 - l.i * 8) l.state c.spell.new.out c.spell.auto.out ∙ l.invariant.1,
       stored_turn a.words.now a.state.now l.i (omega arith) l.invariant.2 (word-written l.state (l.i * 8) 8 _ (omega arith) c.spell.ensures),
     )
 
