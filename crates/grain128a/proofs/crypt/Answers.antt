@@ -41,10 +41,12 @@ warm-warmed-requires c =
 pub returns-in-Failed : goal.returns-in-Failed
 returns-in-Failed c =
     let a = c.args in
-    called a.key.now a.nonce.now a.message.now a.out.now (crypt_failed (checked (goal.at.returns-in-Failed c).After-judge_unauthenticated) c.in-Failed.is)
+    let k = called a.key.now a.nonce.now a.message.now a.out.now (crypt_failed (checked (goal.at.returns-in-Failed c).After-judge_unauthenticated) c.in-Failed.is) in
+    record { crypted = k.0; demand1 = k.1.0; crypting = k.1.1 }
 
 pub returns-in-Passed : goal.returns-in-Passed
 returns-in-Passed c =
     let a = c.args in
-    called a.key.now a.nonce.now a.message.now a.out.now
-    (crypt_passed (checked (goal.at.returns-in-Passed c).After-judge_unauthenticated) c.in-Passed.is c.warm-warmed.ensures c.add_keystream.ensures)
+    let k = called a.key.now a.nonce.now a.message.now a.out.now
+        (crypt_passed (checked (goal.at.returns-in-Passed c).After-judge_unauthenticated) c.in-Passed.is c.warm-warmed.ensures c.add_keystream.ensures) in
+    record { crypted = k.0; demand1 = k.1.0; crypting = k.1.1 }

@@ -66,7 +66,7 @@ compared : (n : After-number) →
 compared n =
     let size = n.size-size.ensures in
     record {
-      is_bytes = is-bytes n.After-judge_authenticated;
+      is_bytes = λ i. omega (arith, n.type_inv.input i);
       began = record { cuts = n.begin-begun.ensures };
       ran = rw size at (rw n.ciphertext_part-ciphertext.ensures at n.decipher_all-done.ensures);
       tagged = n.finish.ensures;
@@ -89,18 +89,21 @@ overflow_sub-count c =
 pub returns-in-Failed : goal.returns-in-Failed
 returns-in-Failed c =
     let a = c.args in
-    called a.tag_bits a.key.now a.nonce.now a.input.now a.out.now (is-bytes (goal.at.returns-in-Failed c).After-judge_authenticated) (open_failed (checked (goal.at.returns-in-Failed c).After-judge_authenticated) c.in-Failed.is)
+    let k = called a.tag_bits a.key.now a.nonce.now a.input.now a.out.now (is-bytes (goal.at.returns-in-Failed c).After-judge_authenticated) (open_failed (checked (goal.at.returns-in-Failed c).After-judge_authenticated) c.in-Failed.is) in
+    record { opened = k.0; demand1 = k.1.0; demand2 = k.1.1.0; demand3 = k.1.1.1.0; past = k.1.1.1.1 }
 
 pub returns-then-finish-number : goal.returns-then-finish-number
 returns-then-finish-number c =
     let a = c.args in
     let size = c.size-size.ensures in
-    called a.tag_bits a.key.now a.nonce.now a.input.now a.out.now (is-bytes (goal.at.returns-then-finish-number c).After-judge_authenticated)
-    (rw size
-    (open_passed (checked (goal.at.returns-then-finish-number c).After-judge_authenticated) c.in-Passed.is (compared (goal.at.returns-then-finish-number c).After-number) c.if-finish-number.true
-    (rw size at (rw c.ciphertext_part-ciphertext.ensures at c.add_keystream.ensures))))
+    let k = called a.tag_bits a.key.now a.nonce.now a.input.now a.out.now (is-bytes (goal.at.returns-then-finish-number c).After-judge_authenticated)
+        (rw size
+        (open_passed (checked (goal.at.returns-then-finish-number c).After-judge_authenticated) c.in-Passed.is (compared (goal.at.returns-then-finish-number c).After-number) c.if-finish-number.true
+        (rw size at (rw c.ciphertext_part-ciphertext.ensures at c.add_keystream.ensures)))) in
+    record { opened = k.0; demand1 = k.1.0; demand2 = k.1.1.0; demand3 = k.1.1.1.0; past = k.1.1.1.1 }
 
 pub returns-else-finish-number : goal.returns-else-finish-number
 returns-else-finish-number c =
     let a = c.args in
-    called a.tag_bits a.key.now a.nonce.now a.input.now a.out.now (is-bytes (goal.at.returns-else-finish-number c).After-judge_authenticated) (open_differs (checked (goal.at.returns-else-finish-number c).After-judge_authenticated) c.in-Passed.is (compared (goal.at.returns-else-finish-number c).After-number) c.if-finish-number.false)
+    let k = called a.tag_bits a.key.now a.nonce.now a.input.now a.out.now (is-bytes (goal.at.returns-else-finish-number c).After-judge_authenticated) (open_differs (checked (goal.at.returns-else-finish-number c).After-judge_authenticated) c.in-Passed.is (compared (goal.at.returns-else-finish-number c).After-number) c.if-finish-number.false) in
+    record { opened = k.0; demand1 = k.1.0; demand2 = k.1.1.0; demand3 = k.1.1.1.0; past = k.1.1.1.1 }

@@ -5,6 +5,7 @@ use Prim.Native.Nat.{ℕ, ◌+◌, ◌≤◌}
 use native.Mathlib.Omega.{arith}
 use lib.ListN.{length}
 use Rattle.bits.proofs.Written.{word-written}
+use Rattle.refusals.specs.declared.Check.TheVariants.{Passed}
 use Rattle.refusals.specs.Refusals.{among}
 use Rattle.refusals.specs.Outcome.{Outcome}
 use Rattle.limits.specs.Limits.{message_limit}
@@ -15,7 +16,7 @@ use Rattle.grain128a.specs.Calls.{sealing_rows, sealed}
 use Rattle.grain128a.specs.Demand2.{Legal, Sealing}
 use Rattle.grain128a.proofs.Demand2.{demand1_sealing, sealing}
 use Rattle.grain128a.proofs.Entry.{SealChecked, seal_failed, seal_legal, seal_passed}
-use Rattle.grain128a.proofs.seal.Goals.{After-encipher_all-done, After-judge_authenticated}
+use Rattle.grain128a.proofs.seal.Goals.{After-judge_authenticated}
 use Rattle.grain128a.proofs.seal.Goals as goal
 
 -- The call's three clauses from the first of them.
@@ -42,28 +43,34 @@ begin-begun-requires c =
     (h.key_sized, h.nonce_sized)
 
 -- All is legal, and there is room for the payload.
-legal : (w : After-encipher_all-done) →
-    let a = w.args in
+legal : (j : After-judge_authenticated) → j.judge_authenticated.result ≡ Passed →
+    let a = j.args in
     Legal a.tag_bits a.key.now a.nonce.now a.message.now × (length a.message.now + tag_size a.tag_bits ≤ length a.out.now)
-legal w = seal_legal (checked w.After-judge_authenticated) w.in-Passed.is
+legal j h = seal_legal (checked j) h
 
 pub overflow_add-end : goal.overflow_add-end
 overflow_add-end c =
-    omega (arith, (legal (goal.at.overflow_add-end c).After-encipher_all-done).1, c.size-size.ensures, c.well_formed)
+    omega (arith, (legal (goal.at.overflow_add-end c).After-judge_authenticated c.in-Passed.is).1, c.size-size.ensures, c.well_formed)
 
 pub finish-requires : goal.finish-requires
-finish-requires c = (legal (goal.at.finish-requires c).After-encipher_all-done).0.tag_fits
+finish-requires c = (legal (goal.at.finish-requires c).After-judge_authenticated c.in-Passed.is).0.tag_fits
+
+pub slice_bounds-spell-end : goal.slice_bounds-spell-end
+slice_bounds-spell-end c =
+    omega (arith, c.encipher_all-done.auto, (legal (goal.at.slice_bounds-spell-end c).After-judge_authenticated c.in-Passed.is).1, c.size-size.ensures)
 
 pub returns-in-Failed : goal.returns-in-Failed
 returns-in-Failed c =
     let a = c.args in
-    called a.tag_bits a.key.now a.nonce.now a.message.now a.out.now (seal_failed (checked (goal.at.returns-in-Failed c).After-judge_authenticated) c.in-Failed.is)
+    let k = called a.tag_bits a.key.now a.nonce.now a.message.now a.out.now (seal_failed (checked (goal.at.returns-in-Failed c).After-judge_authenticated) c.in-Failed.is) in
+    record { sealed = k.0; demand1 = k.1.0; demand2 = k.1.1 }
 
 pub returns-in-Passed : goal.returns-in-Passed
 returns-in-Passed c =
     let a = c.args in
     let size = c.size-size.ensures in
-    called a.tag_bits a.key.now a.nonce.now a.message.now a.out.now
-    (rw size
-    (seal_passed (checked (goal.at.returns-in-Passed c).After-judge_authenticated) c.in-Passed.is (record { cuts = c.begin-begun.ensures }) c.encipher_all-done.ensures c.finish.ensures
-    (rw size at (word-written _ (length a.message.now) c.size-size.result c.finish.result (omega (arith, c.encipher_all-done.auto, (legal (goal.at.returns-in-Passed c).After-encipher_all-done).1, size)) c.spell.ensures))))
+    let k = called a.tag_bits a.key.now a.nonce.now a.message.now a.out.now
+        (rw size
+        (seal_passed (checked (goal.at.returns-in-Passed c).After-judge_authenticated) c.in-Passed.is (record { cuts = c.begin-begun.ensures }) c.encipher_all-done.ensures c.finish.ensures
+        (rw size at (word-written _ (length a.message.now) c.size-size.result c.finish.result (omega (arith, c.encipher_all-done.auto, (legal (goal.at.returns-in-Passed c).After-judge_authenticated c.in-Passed.is).1, size)) c.spell.ensures)))) in
+    record { sealed = k.0; demand1 = k.1.0; demand2 = k.1.1 }

@@ -42,7 +42,8 @@ overflow_add-result-2 c =
 pub returns : goal.returns
 unfolding stream_of state_of bits_taken clocks_so_far
 returns c =
-    let n = c.args.x.counts in (
-      ap₂ (λ (r s : ℕ). r + 2 * (8 * (s + n.ad + n.message) + n.phase)) c.running_from.ensures c.coded_size.ensures,
-      omega (arith, c.coded_size.ensures, coded-at-most n.announced, c.running_from.ensures, runs-early c.args.x.engine.edition),
-    )
+    let n = c.args.x.counts in
+    record {
+      counted = ap₂ (λ (r s : ℕ). r + 2 * (8 * (s + n.ad + n.message) + n.phase)) c.running_from.ensures c.coded_size.ensures;
+      small = omega (arith, c.coded_size.ensures, coded-at-most n.announced, c.running_from.ensures, runs-early c.args.x.engine.edition);
+    }

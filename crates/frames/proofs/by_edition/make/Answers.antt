@@ -14,7 +14,7 @@ use Rattle.frames.specs.Field.{frame_ad, data_field}
 use Rattle.frames.specs.Calls.{making_rows, made}
 use Rattle.frames.specs.Demand2.{Making}
 use Rattle.frames.proofs.Demand2.{demand1_making, making}
-use Rattle.frames.proofs.Entry.{part_kept, MakeChecked, make_failed, make_clear, make_holds, make_passed}
+use Rattle.frames.proofs.Entry.{set_room, part_kept, MakeChecked, make_failed, make_clear, make_holds, make_passed}
 use Rattle.frames.proofs.by_edition.make.Goals.{After-judge_making, After-seal, In-Passed}
 use Rattle.frames.proofs.by_edition.make.Goals as goal
 
@@ -56,14 +56,28 @@ bounds-out-0 c =
     let j = checked (goal.at.bounds-out-0 c).After-judge_making in
     omega (arith, make_holds j c.in-Passed.is, (make_clear j c.in-Passed.is).fits)
 
+pub slice_bounds-seal-end-in-Passed : goal.slice_bounds-seal-end-in-Passed
+slice_bounds-seal-end-in-Passed c =
+    let j = checked (goal.at.slice_bounds-seal-end-in-Passed c).After-judge_making in
+    set_room c.args.out.now (first (goal.at.slice_bounds-seal-end-in-Passed c).In-Passed) (omega (arith, make_holds j c.in-Passed.is, (make_clear j c.in-Passed.is).fits))
+
 pub slice_bounds-spell-count : goal.slice_bounds-spell-count
 slice_bounds-spell-count c =
     omega (arith, c.field_size-size.ensures, make_holds (checked (goal.at.slice_bounds-spell-count c).After-judge_making) c.in-Passed.is)
 
+pub slice_bounds-spell-start : goal.slice_bounds-spell-start
+slice_bounds-spell-start c =
+    omega (arith, c.field_size-size.ensures, make_holds (checked (goal.at.slice_bounds-spell-start c).After-judge_making) c.in-Passed.is)
+
+pub slice_bounds-spell-end : goal.slice_bounds-spell-end
+slice_bounds-spell-end c =
+    omega (arith, kept (goal.at.slice_bounds-spell-end c).After-seal, c.field_size-size.ensures, (make_clear (checked (goal.at.slice_bounds-spell-end c).After-judge_making) c.in-Passed.is).fits)
+
 pub returns-in-Failed : goal.returns-in-Failed
 returns-in-Failed c =
     let a = c.args in
-    called a.edition a.key.now a.nonce.now a.identifier a.message.now a.out.now (make_failed (checked (goal.at.returns-in-Failed c).After-judge_making) a.edition c.in-Failed.is)
+    let k = called a.edition a.key.now a.nonce.now a.identifier a.message.now a.out.now (make_failed (checked (goal.at.returns-in-Failed c).After-judge_making) a.edition c.in-Failed.is) in
+    record { made = k.0; demand1 = k.1.0; demand2 = k.1.1 }
 
 pub shape_of-out : goal.shape_of-out
 shape_of-out c =
@@ -73,6 +87,7 @@ shape_of-out c =
 pub returns-in-Passed : goal.returns-in-Passed
 returns-in-Passed c =
     let a = c.args in
-    called a.edition a.key.now a.nonce.now a.identifier a.message.now a.out.now
-    (make_passed (checked (goal.at.returns-in-Passed c).After-judge_making) c.in-Passed.is a.edition c.seal.new.out c.spell.new.out c.frame_ad-ad.result c.field_size-size.result
-    (c.frame_ad-ad.ensures ∙ ap (frame_ad a.identifier) c.field_code.ensures) c.field_size-size.ensures c.seal.ensures.0 c.spell.ensures)
+    let k = called a.edition a.key.now a.nonce.now a.identifier a.message.now a.out.now
+        (make_passed (checked (goal.at.returns-in-Passed c).After-judge_making) c.in-Passed.is a.edition c.seal.new.out c.spell.new.out c.frame_ad-ad.result c.field_size-size.result
+        (c.frame_ad-ad.ensures ∙ ap (frame_ad a.identifier) c.field_code.ensures) c.field_size-size.ensures c.seal.ensures.0 c.spell.ensures) in
+    record { made = k.0; demand1 = k.1.0; demand2 = k.1.1 }

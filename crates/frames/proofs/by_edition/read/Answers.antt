@@ -13,7 +13,7 @@ use Rattle.frames.specs.Calls.{reading_rows, recovered, read}
 use Rattle.frames.specs.Promises.{Reading}
 use Rattle.frames.proofs.Demand2.{demand1_reading}
 use Rattle.frames.proofs.Promises.{reading}
-use Rattle.frames.proofs.Entry.{ReadChecked, read_failed, read_passed}
+use Rattle.frames.proofs.Entry.{ReadChecked, read_failed, read-holds, read_passed}
 use Rattle.frames.proofs.by_edition.read.Goals.{After-judge_reading}
 use Rattle.frames.proofs.by_edition.read.Goals as goal
 
@@ -37,13 +37,19 @@ checked j = record { checked = j.judge_reading.ensures }
 is-bytes : (j : After-judge_reading) → Bytes j.args.field.now
 is-bytes j i = omega (arith, j.type_inv.field i)
 
+pub slice_bounds-open-end-in-Passed : goal.slice_bounds-open-end-in-Passed
+slice_bounds-open-end-in-Passed c =
+    omega (arith, c.announced.ensures, read-holds (checked (goal.at.slice_bounds-open-end-in-Passed c).After-judge_reading) c.in-Passed.is)
+
 pub returns-in-Failed : goal.returns-in-Failed
 returns-in-Failed c =
     let a = c.args in
-    called a.edition a.key.now a.nonce.now a.identifier a.code a.field.now a.out.now (is-bytes (goal.at.returns-in-Failed c).After-judge_reading) (read_failed (checked (goal.at.returns-in-Failed c).After-judge_reading) a.edition c.in-Failed.is)
+    let k = called a.edition a.key.now a.nonce.now a.identifier a.code a.field.now a.out.now (is-bytes (goal.at.returns-in-Failed c).After-judge_reading) (read_failed (checked (goal.at.returns-in-Failed c).After-judge_reading) a.edition c.in-Failed.is) in
+    record { read = k.0; demand1 = k.1.0; promises = k.1.1 }
 
 pub returns-in-Passed : goal.returns-in-Passed
 returns-in-Passed c =
     let a = c.args in
-    called a.edition a.key.now a.nonce.now a.identifier a.code a.field.now a.out.now (is-bytes (goal.at.returns-in-Passed c).After-judge_reading)
-    (read_passed (checked (goal.at.returns-in-Passed c).After-judge_reading) c.in-Passed.is a.edition c.frame_ad-ad.result c.announced.result c.frame_ad-ad.ensures c.announced.ensures (goal.at.returns-in-Passed c).After-open.«open».ensures.0)
+    let k = called a.edition a.key.now a.nonce.now a.identifier a.code a.field.now a.out.now (is-bytes (goal.at.returns-in-Passed c).After-judge_reading)
+        (read_passed (checked (goal.at.returns-in-Passed c).After-judge_reading) c.in-Passed.is a.edition c.frame_ad-ad.result c.announced.result c.frame_ad-ad.ensures c.announced.ensures (goal.at.returns-in-Passed c).After-open.«open».ensures.0) in
+    record { read = k.0; demand1 = k.1.0; promises = k.1.1 }

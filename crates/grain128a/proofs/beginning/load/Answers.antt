@@ -1,8 +1,7 @@
 -- `grain128a::beginning::load` meets its contract.
-use mathlib.Core.Path.{sym, ap₂, ◌∙◌}
+use mathlib.Core.Path.{ap₂, ◌∙◌}
 use mathlib.Core.List.{List}
 use Prim.Native.Nat.{ℕ}
-use Rattle.bits.proofs.Written.{copied}
 use Rattle.startup.specs.StartUp.{loaded}
 use Rattle.grain128a.specs.Bits.{bits}
 use Rattle.grain128a.proofs.beginning.load.Goals as goal
@@ -10,4 +9,4 @@ use Rattle.grain128a.proofs.beginning.load.Goals as goal
 pub returns : goal.returns
 returns c =
     let a = c.args in
-    c.load.ensures ∙ ap₂ (λ (x y : List ℕ). loaded (bits x) (bits y)) (copied a.key.now _ (sym c.requires.0) c.copy_from_slice.ensures.1) (copied a.nonce.now _ (sym c.requires.1) c.copy_from_slice-2.ensures.1)
+    c.load.ensures ∙ ap₂ (λ (x y : List ℕ). loaded (bits x) (bits y)) c.copy_from_slice.ensures.after c.copy_from_slice-2.ensures.after

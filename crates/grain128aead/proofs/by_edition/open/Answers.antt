@@ -64,7 +64,7 @@ compared : (n : After-number) →
     Compared a.edition a.key.now a.nonce.now a.ad.now a.input.now n.begin-begun.result n.decipher_all-done.result n.finish.result n.number.result
 compared n =
     record {
-      is_bytes = is-bytes n.After-judge;
+      is_bytes = λ i. omega (arith, n.type_inv.input i);
       began = n.begin-begun.ensures;
       ran = rw n.ciphertext_part-ciphertext.ensures at n.decipher_all-done.ensures;
       tagged = n.finish.ensures;
@@ -84,15 +84,18 @@ overflow_sub-count c =
 pub returns-in-Failed : goal.returns-in-Failed
 returns-in-Failed c =
     let a = c.args in
-    called a.edition a.key.now a.nonce.now a.ad.now a.input.now a.out.now (is-bytes (goal.at.returns-in-Failed c).After-judge) (open_failed (checked (goal.at.returns-in-Failed c).After-judge) a.edition c.in-Failed.is)
+    let k = called a.edition a.key.now a.nonce.now a.ad.now a.input.now a.out.now (is-bytes (goal.at.returns-in-Failed c).After-judge) (open_failed (checked (goal.at.returns-in-Failed c).After-judge) a.edition c.in-Failed.is) in
+    record { opened = k.0; demand1 = k.1.0; demand2 = k.1.1.0; demand3 = k.1.1.1.0; substitution = k.1.1.1.1 }
 
 pub returns-then-finish-number : goal.returns-then-finish-number
 returns-then-finish-number c =
     let a = c.args in
-    called a.edition a.key.now a.nonce.now a.ad.now a.input.now a.out.now (is-bytes (goal.at.returns-then-finish-number c).After-judge)
-    (open_passed (checked (goal.at.returns-then-finish-number c).After-judge) c.in-Passed.is (compared (goal.at.returns-then-finish-number c).After-number) c.if-finish-number.true (rw c.ciphertext_part-ciphertext.ensures at c.add_keystream.ensures))
+    let k = called a.edition a.key.now a.nonce.now a.ad.now a.input.now a.out.now (is-bytes (goal.at.returns-then-finish-number c).After-judge)
+        (open_passed (checked (goal.at.returns-then-finish-number c).After-judge) c.in-Passed.is (compared (goal.at.returns-then-finish-number c).After-number) c.if-finish-number.true (rw c.ciphertext_part-ciphertext.ensures at c.add_keystream.ensures)) in
+    record { opened = k.0; demand1 = k.1.0; demand2 = k.1.1.0; demand3 = k.1.1.1.0; substitution = k.1.1.1.1 }
 
 pub returns-else-finish-number : goal.returns-else-finish-number
 returns-else-finish-number c =
     let a = c.args in
-    called a.edition a.key.now a.nonce.now a.ad.now a.input.now a.out.now (is-bytes (goal.at.returns-else-finish-number c).After-judge) (open_differs (checked (goal.at.returns-else-finish-number c).After-judge) c.in-Passed.is (compared (goal.at.returns-else-finish-number c).After-number) c.if-finish-number.false)
+    let k = called a.edition a.key.now a.nonce.now a.ad.now a.input.now a.out.now (is-bytes (goal.at.returns-else-finish-number c).After-judge) (open_differs (checked (goal.at.returns-else-finish-number c).After-judge) c.in-Passed.is (compared (goal.at.returns-else-finish-number c).After-number) c.if-finish-number.false) in
+    record { opened = k.0; demand1 = k.1.0; demand2 = k.1.1.0; demand3 = k.1.1.1.0; substitution = k.1.1.1.1 }

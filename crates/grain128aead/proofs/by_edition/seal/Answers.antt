@@ -17,7 +17,7 @@ use Rattle.checks.specs.Demand1.{Demand1}
 use Rattle.grain128aead.specs.Demand2.{Sealing}
 use Rattle.grain128aead.proofs.Demand2.{demand1_sealing, sealing}
 use Rattle.grain128aead.proofs.Entry.{SealChecked, seal_failed, seal_clear, seal_room, seal_passed}
-use Rattle.grain128aead.proofs.by_edition.seal.Goals.{After-encipher_all-done, After-judge}
+use Rattle.grain128aead.proofs.by_edition.seal.Goals.{After-judge}
 use Rattle.grain128aead.proofs.by_edition.seal.Goals as goal
 
 -- The call's three clauses from the first of them.
@@ -43,24 +43,24 @@ begin-begun-requires c =
     let h = seal_clear (checked (goal.at.begin-begun-requires c).After-judge) c.in-Passed.is in
     (h.key_sized, h.nonce_sized)
 
--- There is room for the payload.
-room : (w : After-encipher_all-done) →
-    let a = w.args in
-    length a.message.now + tag_size ≤ length a.out.now
-room w = seal_room (checked w.After-judge) w.in-Passed.is
-
 pub overflow_add-end : goal.overflow_add-end
-overflow_add-end c = omega (arith, room (goal.at.overflow_add-end c).After-encipher_all-done, c.well_formed)
+overflow_add-end c = omega (arith, seal_room (checked (goal.at.overflow_add-end c).After-judge) c.in-Passed.is, c.well_formed)
+
+pub slice_bounds-spell-end : goal.slice_bounds-spell-end
+slice_bounds-spell-end c =
+    omega (arith, c.encipher_all-done.auto, seal_room (checked (goal.at.slice_bounds-spell-end c).After-judge) c.in-Passed.is)
 
 pub returns-in-Failed : goal.returns-in-Failed
 returns-in-Failed c =
     let a = c.args in
-    called a.edition a.key.now a.nonce.now a.ad.now a.message.now a.out.now
-    (seal_failed (checked (goal.at.returns-in-Failed c).After-judge) a.edition c.in-Failed.is)
+    let k = called a.edition a.key.now a.nonce.now a.ad.now a.message.now a.out.now
+        (seal_failed (checked (goal.at.returns-in-Failed c).After-judge) a.edition c.in-Failed.is) in
+    record { sealed = k.0; demand1 = k.1.0; demand2 = k.1.1 }
 
 pub returns-in-Passed : goal.returns-in-Passed
 returns-in-Passed c =
     let a = c.args in
-    called a.edition a.key.now a.nonce.now a.ad.now a.message.now a.out.now
-    (seal_passed (checked (goal.at.returns-in-Passed c).After-judge) c.in-Passed.is a.edition c.begin-begun.result c.encipher_all-done.result c.finish.result
-    c.begin-begun.ensures c.encipher_all-done.ensures c.finish.ensures (word-written _ (length a.message.now) 8 c.finish.result (omega (arith, c.encipher_all-done.auto, room (goal.at.returns-in-Passed c).After-encipher_all-done)) c.spell.ensures))
+    let k = called a.edition a.key.now a.nonce.now a.ad.now a.message.now a.out.now
+        (seal_passed (checked (goal.at.returns-in-Passed c).After-judge) c.in-Passed.is a.edition c.begin-begun.result c.encipher_all-done.result c.finish.result
+        c.begin-begun.ensures c.encipher_all-done.ensures c.finish.ensures (word-written _ (length a.message.now) 8 c.finish.result (omega (arith, c.encipher_all-done.auto, seal_room (checked (goal.at.returns-in-Passed c).After-judge) c.in-Passed.is)) c.spell.ensures)) in
+    record { sealed = k.0; demand1 = k.1.0; demand2 = k.1.1 }

@@ -1,6 +1,5 @@
 -- `streams::going::start` meets its contract.
-use mathlib.Core.Path.{sym, ap₂, ◌∙◌}
-use Rattle.bits.proofs.Written.{copied}
+use mathlib.Core.Path.{ap₂, ◌∙◌}
 use Rattle.machine.specs.declared.edition.Edition.{Edition}
 use Rattle.machine.specs.Machine.{State, run}
 use Rattle.startup.specs.Editions.{bits_in, initialised}
@@ -11,6 +10,6 @@ use Rattle.streams.proofs.going.start.Goals as goal
 pub returns : goal.returns
 returns c =
     let a = c.args in
-    let began = c.start.ensures ∙ ap₂ (initialised a.edition) (copied a.key.now _ (sym c.requires.0) c.copy_from_slice.ensures.1) (copied a.nonce.now _ (sym c.requires.1) c.copy_from_slice-2.ensures.1) in
+    let began = c.start.ensures ∙ ap₂ (initialised a.edition) c.copy_from_slice.ensures.after c.copy_from_slice-2.ensures.after in
     c.absorb_length.ensures
     ∙ ap₂ (λ (v : Edition) (st : State). run st (bits_in v (coded_length a.announced))) (start-edition a.edition a.key.now a.nonce.now c.start.result began) began
