@@ -1,4 +1,4 @@
--- `captures::entries::sound` meets its contract. The loop's invariant: the entries that are left decide what the whole head does.
+-- The loop's invariant: the entries that are left decide what the whole head does.
 use Rattle.std.proofs.Common.{◌≡◌, ◌+◌, ◌-◌, ◌*◌, ◌≤◌}
 use Rattle.captures.specs.Layout.{entries_sound, head_sound}
 use Rattle.captures.proofs.entries.sound.Given as goal

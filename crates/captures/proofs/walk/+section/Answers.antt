@@ -42,12 +42,6 @@ overflow_add-place t c = record { fits = omega (arith, (begun t c).few) }
 pub loop-k-init : goal.loop-k-init
 loop-k-init t c = begun t c
 
-pub size-size-requires : goal.size-size-requires
-size-size-requires t c = (omega (arith, c.loop-k.invariant.few), omega (arith, c.loop-k.invariant.there))
-
-pub kind-requires : goal.kind-requires
-kind-requires t c = (omega (arith, c.loop-k.invariant.few), omega (arith, c.loop-k.invariant.there))
-
 -- A turn of the loop, where the kind of entry k is known.
 module _ (t : ℕ) (d : After-kind t) where
   abbrev sought : ℕ
