@@ -7,7 +7,7 @@ use Rattle.captures.specs.declared.Part.{Part}
 use Rattle.captures.specs.Content.{Content, none, frame, group, head_size_of, bodies_size, section_size, head, bodies, written, Inside, frames_from, frames_of}
 use Rattle.captures.specs.Walk.{sound, walk_capture}
 use Rattle.captures.specs.Calls.{count_of}
-use Rattle.captures.specs.Listing.{leaves, Piece, head_at, frame_at, pieces_from, frames_among, Fill, Apart, bytes_at, EveryFrame}
+use Rattle.captures.specs.Listing.{leaves, Piece, part_in, head_at, frame_at, pieces_from, frames_among, Fill, Apart, bytes_at, EveryFrame}
 use Rattle.captures.proofs.Places.{here, behind}
 use Rattle.captures.proofs.Sizes.{frame-size, length-head, length-written}
 use Rattle.captures.proofs.ReadBack.{legal-found}
@@ -40,7 +40,7 @@ apart-append : (from mid to : ℕ) (ps qs : List Part) → Apart from mid ps →
 unfolding Apart
 apart-append from mid to [] [] h k = omega arith
 apart-append from mid to [] (q ∷ qs) h k = (omega arith, k.1)
-apart-append from mid to (p ∷ ps) qs h k = (h.0, apart-append _ mid to ps qs h.1 k)
+apart-append from mid to (p ∷ ps) qs h k = (h.0, apart-append (p.start + p.size) mid to ps qs h.1 k)
 
 pub frames-apart : (c : Content) (from place to : ℕ) → from ≤ place → place + bodies_size c ≡ to → Apart from to (frames_from place c)
 unfolding frames_from bodies_size Apart
@@ -77,7 +77,7 @@ frames_among_lem place (group b d) =
 fill-append : (from mid to : ℕ) (ps qs : List Piece) → Fill from mid ps → Fill mid to qs → Fill from to (ps ++ qs)
 unfolding Fill
 fill-append from mid to [] qs h k = rw h k
-fill-append from mid to (p ∷ ps) qs h k = (h.0, fill-append _ mid to ps qs h.1 k)
+fill-append from mid to (p ∷ ps) qs h k = (h.0, fill-append (from + (part_in p).size) mid to ps qs h.1 k)
 
 pieces-fill : (c : Content) (place to : ℕ) → place + bodies_size c ≡ to → Fill place to (pieces_from place c)
 unfolding pieces_from bodies_size Fill

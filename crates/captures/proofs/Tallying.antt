@@ -99,7 +99,7 @@ module _ (walk : List ℕ → Walked) (n k place : ℕ) (s : List ℕ) (h : k < 
         one_frame : (w : Walked) → tallied_from sought t (base + place) (before (frame (part place (size_at k s) s)) w)
             ≡ tallied_from sought (counted sought t (part_of (base + place) (size_at k s))) (base + (place + size_at k s)) w
         one_frame (broken r) = refl
-        one_frame (sound c) = rw (whole, add_assoc)
+        one_frame (sound c) = rw (whole, add_assoc base place (size_at k s))
 
     pub group_turn : (u : Tally) → (kind_at k s ≡ 0 → ⊥)
         → ((c : Content) → walk (part place (size_at k s) s) ≡ sound c → section_size c ≡ length (part place (size_at k s) s))

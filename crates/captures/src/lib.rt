@@ -1,5 +1,6 @@
 // Captures: sections of frames and groups, judged as a whole, and frames by number.
 #![tactic(auto)]
+
 pub mod body;
 mod entries;
 mod numbers;

@@ -1,4 +1,4 @@
--- `captures::entries::sound` meets its contract. The loop's invariant: the entries that are left decide what the whole head does.
+-- `captures::entries::sound` meets its contract.
 use Rattle.std.proofs.Common.{ℕ, ◌+◌, ◌-◌, sym, ap, ◌∙◌, arith}
 use native.Mathlib.Nat.{sub-zero}
 use Rattle.captures.specs.Layout.{head_size, entries_sound}
@@ -9,19 +9,10 @@ use Rattle.captures.proofs.entries.sound.Goals as goal
 pub returns-then-s-lt2 : goal.returns-then-s-lt2
 returns-then-s-lt2 c = sym (head-none c.args.s.now c.if-s-lt2.true)
 
-pub count-entries-requires : goal.count-entries-requires
-count-entries-requires c = c.if-s-lt2.false
-
 pub returns-then-entries-gt255 : goal.returns-then-entries-gt255
 returns-then-entries-gt255 c =
     let s = c.args.s.now in
     sym (head_many s (rw (← c.count-entries.ensures) c.if-entries-gt255.true))
-
-pub overflow_mul-place : goal.overflow_mul-place
-overflow_mul-place c = record { fits = omega arith }
-
-pub overflow_add-place : goal.overflow_add-place
-overflow_add-place c = record { fits = omega arith }
 
 pub returns-then-s-place : goal.returns-then-s-place
 returns-then-s-place c =
@@ -55,9 +46,6 @@ pub overflow_add-place-in-loop-k : goal.overflow_add-place-in-loop-k
 overflow_add-place-in-loop-k c =
     let s = c.args.s.now in
     record { fits = omega (arith, c.size-place.ensures, number_at_bound (head_size c.loop-k.k + 1) 3 s) }
-
-pub overflow_add-k : goal.overflow_add-k
-overflow_add-k c = record { fits = omega arith }
 
 pub loop-k-preserved : goal.loop-k-preserved
 loop-k-preserved c =
