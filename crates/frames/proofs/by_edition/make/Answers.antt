@@ -15,7 +15,7 @@ use Rattle.frames.specs.Calls.{making_rows, made}
 use Rattle.frames.specs.Demand2.{Making}
 use Rattle.frames.proofs.Demand2.{demand1_making, making}
 use Rattle.frames.proofs.Entry.{set_room, part_kept, MakeChecked, make_failed, make_clear, make_holds, make_passed}
-use Rattle.frames.proofs.by_edition.make.Goals.{After-judge_making, After-seal, In-Passed}
+use Rattle.frames.proofs.by_edition.make.Goals.{After-judge_making, After-seal}
 use Rattle.frames.proofs.by_edition.make.Goals as goal
 
 -- The call's three clauses from the first of them.
@@ -35,17 +35,13 @@ checked : (j : After-judge_making) →
     MakeChecked a.key.now a.nonce.now a.identifier a.message.now a.out.now j.judge_making.result
 checked j = record { checked = j.judge_making.ensures }
 
--- What is written to the first byte.
-abbrev first : (told : In-Passed) → ℕ
-first told = length told.args.message.now
-
 -- The output with that byte and what sealing has written has its length.
 kept : (s : After-seal) →
     let a = s.args in
-    length (put_mid 1 (length a.message.now + 9 - 1) (set a.out.now 0 (first s.In-Passed)) s.seal.new.out) ≡ length a.out.now
+    length (put_mid 1 (length a.message.now + 9 - 1) (set a.out.now 0 (length a.message.now)) s.seal.new.out) ≡ length a.out.now
 kept s =
     let a = s.args in
-    part_kept a.out.now (first s.In-Passed) (length a.message.now + 9 - 1) s.seal.new.out s.seal.auto.out
+    part_kept a.out.now (length a.message.now) (length a.message.now + 9 - 1) s.seal.new.out s.seal.auto.out
 
 pub overflow_cast-out : goal.overflow_cast-out
 overflow_cast-out c =
@@ -59,7 +55,7 @@ bounds-out-0 c =
 pub slice_bounds-seal-end-in-Passed : goal.slice_bounds-seal-end-in-Passed
 slice_bounds-seal-end-in-Passed c =
     let j = checked (goal.at.slice_bounds-seal-end-in-Passed c).After-judge_making in
-    set_room c.args.out.now (first (goal.at.slice_bounds-seal-end-in-Passed c).In-Passed) (omega (arith, make_holds j c.in-Passed.is, (make_clear j c.in-Passed.is).fits))
+    set_room c.args.out.now (length c.args.message.now) (omega (arith, make_holds j c.in-Passed.is, (make_clear j c.in-Passed.is).fits))
 
 pub slice_bounds-spell-count : goal.slice_bounds-spell-count
 slice_bounds-spell-count c =
@@ -89,5 +85,5 @@ returns-in-Passed c =
     let a = c.args in
     let k = called a.edition a.key.now a.nonce.now a.identifier a.message.now a.out.now
         (make_passed (checked (goal.at.returns-in-Passed c).After-judge_making) c.in-Passed.is a.edition c.seal.new.out c.spell.new.out c.frame_ad-ad.result c.field_size-size.result
-        (c.frame_ad-ad.ensures ∙ ap (frame_ad a.identifier) c.field_code.ensures) c.field_size-size.ensures c.seal.ensures.0 c.spell.ensures) in
+        (c.frame_ad-ad.ensures ∙ ap (frame_ad a.identifier) c.field_code.ensures) c.field_size-size.ensures c.seal.ensures.sealed c.spell.ensures) in
     record { made = k.0; demand1 = k.1.0; demand2 = k.1.1 }

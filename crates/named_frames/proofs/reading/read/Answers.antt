@@ -3,7 +3,7 @@ use mathlib.Core.Path.{◌≡◌, sym, ap, ◌∙◌, subst}
 use mathlib.Core.List.{List}
 use Prim.Native.Nat.{ℕ}
 use native.Mathlib.Omega.{arith}
-use borrow.Author.Tests.{not-true, not-false}
+use borrow.Author.Tests.{not-true}
 use Rattle.bits.specs.Bytes.{Bytes}
 use Rattle.refusals.specs.Refusals.{among}
 use Rattle.refusals.specs.Outcome.{Outcome}
@@ -37,14 +37,14 @@ pub returns-then-not-known : goal.returns-then-not-known
 returns-then-not-known c =
     let a = c.args in
     let k = called a.edition a.key.now a.nonce.now a.identifier a.code a.field.now a.out.now (is-bytes (goal.at.returns-then-not-known c).After-known)
-        (read_unknown a.edition a.key.now a.nonce.now a.identifier a.code a.field.now a.out.now (sym c.known.ensures ∙ not-true _ c.if-not-known.true)) in
+        (read_unknown a.edition a.key.now a.nonce.now a.identifier a.code a.field.now a.out.now (sym c.known.ensures ∙ c.if-not-known.true)) in
     record { read = k.0; demand1 = k.1.0; promises = k.1.1 }
 
 pub returns : goal.returns
 returns c =
     let a = c.args in
     let k = called a.edition a.key.now a.nonce.now a.identifier a.code a.field.now a.out.now (is-bytes (goal.at.returns c).After-known)
-        (c.read.ensures.0
+        (c.read.ensures.read
         ∙ ap (λ (v : Edition). calls.read v a.key.now a.nonce.now a.identifier a.code a.field.now a.out.now) c.named.ensures
-        ∙ read_known a.edition a.key.now a.nonce.now a.identifier a.code a.field.now a.out.now (sym c.known.ensures ∙ not-false _ c.if-not-known.false)) in
+        ∙ read_known a.edition a.key.now a.nonce.now a.identifier a.code a.field.now a.out.now (sym c.known.ensures ∙ c.if-not-known.false)) in
     record { read = k.0; demand1 = k.1.0; promises = k.1.1 }
