@@ -18,11 +18,15 @@ float_to_bits-value_bits c =
 pub returns-in-Refused : goal.returns-in-Refused
 returns-in-Refused c =
     let told = sym c.decode.ensures ∙ c.in-Refused.is in
-    (sym (ap answer told), sym (ap (λ (x : Decoded). bits_after x c.args.value_bits.now) told))
+    record {
+      value = sym (ap answer told);
+      value_bits_after = sym (ap (λ (x : Decoded). bits_after x c.args.value_bits.now) told);
+    }
 
 pub returns-in-Value : goal.returns-in-Value
 returns-in-Value c =
-    let told = sym c.decode.ensures ∙ c.in-Value.is in (
-      ap Count c.number.ensures ∙ sym (ap answer told),
-      ap (to_bits binary64) c.carried.ensures ∙ sym (ap (λ (x : Decoded). bits_after x c.args.value_bits.now) told),
-    )
+    let told = sym c.decode.ensures ∙ c.in-Value.is in
+    record {
+      value = ap Count c.number.ensures ∙ sym (ap answer told);
+      value_bits_after = ap (to_bits binary64) c.carried.ensures ∙ sym (ap (λ (x : Decoded). bits_after x c.args.value_bits.now) told);
+    }

@@ -1,24 +1,17 @@
 -- `signals::judging::verdict` meets its contract.
 use mathlib.Core.Path.{sym, ◌∙◌}
-use borrow.Author.Tests.{not-true, not-false}
 use Rattle.signals.proofs.judging.verdict.Goals as goal
 
 pub returns-then-not-finite : goal.returns-then-not-finite
-returns-then-not-finite c =
-    let f = c.finite in
-    simp (sym f.ensures ∙ not-true f.result c.if-not-finite.true)
+returns-then-not-finite c = simp (sym c.finite.ensures ∙ c.if-not-finite.true)
 
 pub returns-then-value-s : goal.returns-then-value-s
-returns-then-value-s c =
-    let f = c.finite in
-    simp (sym f.ensures ∙ not-false f.result c.if-not-finite.false, c.if-value-s.true)
+returns-then-value-s c = simp (sym c.finite.ensures ∙ c.if-not-finite.false, c.if-value-s.true)
 
 pub returns-then-s-value : goal.returns-then-s-value
 returns-then-s-value c =
-    let f = c.finite in
-    simp (sym f.ensures ∙ not-false f.result c.if-not-finite.false, c.if-value-s.false, c.if-s-value.true)
+    simp (sym c.finite.ensures ∙ c.if-not-finite.false, c.if-value-s.false, c.if-s-value.true)
 
 pub returns : goal.returns
 returns c =
-    let f = c.finite in
-    simp (sym f.ensures ∙ not-false f.result c.if-not-finite.false, c.if-value-s.false, c.if-s-value.false)
+    simp (sym c.finite.ensures ∙ c.if-not-finite.false, c.if-value-s.false, c.if-s-value.false)
