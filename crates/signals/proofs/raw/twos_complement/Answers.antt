@@ -32,25 +32,6 @@ rest_small n width most less = lt_of_le_of_lt (rest_le n width) (number_small n 
 top_small : (n width : ℕ) → width ≤ 32 → n < 2 ^ width → top n width < 2 ^ 32
 top_small n width most less = let h = number_small n width most less in omega arith
 
-pub overflow_cast-result : goal.overflow_cast-result
-overflow_cast-result c =
-    let h = rest_small c.args.n c.args.width c.requires.1 c.requires.2 in
-    record { sfits = omega arith }
-
-pub overflow_sub-result : goal.overflow_sub-result
-overflow_sub-result c = rest_le c.args.n c.args.width
-
-pub overflow_cast-result-2 : goal.overflow_cast-result-2
-overflow_cast-result-2 c =
-    let h = top_small c.args.n c.args.width c.requires.1 c.requires.2 in
-    record { sfits = omega arith }
-
-pub overflow_sub-result-2 : goal.overflow_sub-result-2
-overflow_sub-result-2 c =
-    let n = c.args.n in
-    let width = c.args.width in
-    signed_fits (rest n width) (top n width) (rest_small n width c.requires.1 c.requires.2) (top_small n width c.requires.1 c.requires.2)
-
 pub returns : goal.returns
 returns c =
     let n = c.args.n in
