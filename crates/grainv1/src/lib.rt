@@ -1,5 +1,6 @@
 // Grain v1: a message with the keystream added. There is no tag.
 #![tactic(auto)]
+
 mod adding;
 pub mod keystream;
 pub mod registers;

@@ -1,5 +1,6 @@
 // Physical values of signals in a message: where a signal lies, its raw number, its value, and where that lies in its limits.
 #![tactic(auto)]
+
 mod judging;
 mod raw;
 

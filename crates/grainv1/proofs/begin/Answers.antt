@@ -1,14 +1,7 @@
 -- `grainv1::begin` meets its contract.
-use mathlib.Core.Path.{sym}
-use native.Mathlib.Omega.{arith}
 use borrow.Author.Rules.{part_to_end}
-use lib.Seq.{length-take-le}
 use Rattle.grainv1.proofs.StartUp.{initialised-words}
 use Rattle.grainv1.proofs.begin.Goals as goal
-
-pub slice_bounds-number-end : goal.slice_bounds-number-end
-slice_bounds-number-end c =
-    sym (length-take-le 8 c.args.key.now (omega (arith, c.requires.0)))
 
 pub returns : goal.returns
 returns c =

@@ -17,11 +17,13 @@ add-requires c =
 pub returns-in-Failed : goal.returns-in-Failed
 returns-in-Failed c =
     let a = c.args in
-    called a.key.now a.nonce.now a.message.now a.out.now
-    (crypt_failed a.key.now a.nonce.now a.message.now a.out.now (sym c.judge.ensures ∙ c.in-Failed.is))
+    let left = crypt_failed a.key.now a.nonce.now a.message.now a.out.now (sym c.judge.ensures ∙ c.in-Failed.is) in
+    let told = called a.key.now a.nonce.now a.message.now a.out.now left in
+    record { crypted = told.0; demand1 = told.1.0; crypting = told.1.1 }
 
 pub returns-in-Passed : goal.returns-in-Passed
 returns-in-Passed c =
     let a = c.args in
-    called a.key.now a.nonce.now a.message.now a.out.now
-    (crypt_passed a.key.now a.nonce.now a.message.now a.out.now (sym c.judge.ensures ∙ c.in-Passed.is) c.begin.ensures c.add.ensures)
+    let left = crypt_passed a.key.now a.nonce.now a.message.now a.out.now (sym c.judge.ensures ∙ c.in-Passed.is) c.begin.ensures c.add.ensures in
+    let told = called a.key.now a.nonce.now a.message.now a.out.now left in
+    record { crypted = told.0; demand1 = told.1.0; crypting = told.1.1 }

@@ -23,10 +23,6 @@ returns-then-unusable c =
     (is_unusable a.message.now a.start a.width a.signed a.s (sym c.misplaced.ensures ∙ c.if-misplaced.false)
     (sym c.unusable.ensures ∙ c.if-unusable.true))
 
-pub raw-n-requires : goal.raw-n-requires
-raw-n-requires c =
-    sym c.misplaced.ensures ∙ c.if-misplaced.false
-
 pub value-requires : goal.value-requires
 value-requires c =
     let a = c.args in

@@ -1,12 +1,8 @@
 -- `grainv1::keystream::word` meets its contract.
-use mathlib.Core.Path.{refl}
 use native.Mathlib.Omega.{arith}
 use Rattle.grainv1.specs.Words.{running_of}
 use Rattle.grainv1.proofs.Outputs.{left_less, left_none, keystreams}
 use Rattle.grainv1.proofs.keystream.word.Goals as goal
-
-pub loop-left-init : goal.loop-left-init
-loop-left-init c = refl
 
 pub loop-left-preserved : goal.loop-left-preserved
 loop-left-preserved c =
