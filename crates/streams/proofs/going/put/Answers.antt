@@ -10,4 +10,4 @@ same_count e = cc
 
 pub returns : goal.returns
 returns c =
-    (ap Count c.clocks.ensures.0, (c.write.ensures, capped_fits _ (λ n e. rw (same_count e) c.clocks.ensures.1)))
+    record { counted = ap Count c.clocks.ensures.counted; stored = c.write.ensures; fits = capped_fits _ (λ n e. rw (same_count e) c.clocks.ensures.small) }
