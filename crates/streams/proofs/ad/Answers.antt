@@ -34,7 +34,7 @@ pub more_ad-counts-requires : goal.more_ad-counts-requires
 more_ad-counts-requires c =
     let a = c.args in
     let inside = (ad-in_turn a.kind c.in-Sound.x.counts (length a.piece.now) (passed_clear _ _ _ _ (sym (judged (goal.at.more_ad-counts-requires c).After-judge) ∙ c.in-Passed.is)).in_turn).1 in
-    omega (arith, inside, announced-small (holding (goal.at.more_ad-counts-requires c).In-Sound) (λ i. omega (arith, (goal.at.more_ad-counts-requires c).In-Sound.type_inv.state i)))
+    omega (arith, inside, announced-small (holding (goal.at.more_ad-counts-requires c).In-Sound) (λ i. omega (arith, c.slice_known-1.given i)))
 
 pub returns-in-Failed : goal.returns-in-Failed
 returns-in-Failed c =
