@@ -2,6 +2,7 @@
 #
 #   have-rt, have-cc, have-c++, have-rustc   say in one line that a tool is missing
 #   outside-build   build/libtikhoplav.a and build/tikhoplav, the command-line tool
+#   programs        the programs on the proved code, run once each
 #   outside-test    the archive, the header, the tool and the installation, tried from outside
 #   outside-lint    layout and lints of the code outside; needs rustfmt, clippy-driver and shellcheck
 #   bench           the archive beside the independent implementation
@@ -22,14 +23,14 @@ RUSTC ?= $(or $(shell command -v rustc),$(wildcard $(HOME)/.cargo/bin/rustc),rus
 
 OUT := build/outside
 
-.PHONY: outside-build outside-test try-model try-calls outside-lint bench demo install have-rt have-cc have-c++ have-rustc
+.PHONY: outside-build programs outside-test try-model try-calls outside-lint bench demo install have-rt have-cc have-c++ have-rustc
 
 outside-build: have-rt have-cc have-rustc build/libtikhoplav.a build/tikhoplav
 
 need = @command -v $(1) >/dev/null || { echo "missing: $(1), $(2), on PATH" >&2; exit 1; }
 
 have-rt:
-	$(call need,rt,the command of the Rattle toolchain (rattle-kit-5))
+	$(call need,rt,the command of the Rattle toolchain (rattle-kit-13f))
 
 have-cc:
 	$(call need,$(CC),a C compiler)
@@ -44,12 +45,18 @@ $(OUT):
 	mkdir -p $@
 
 # The archive depends on the files that are proved and on their folders, so that a removed file counts too.
-VERIFIED := bits key lengths refusals tagged untagged length_codes captures generators preoutput strokes authenticator machine startup strings payload checks frame_checks mode_checks limits grain128aead grain128a grainv1 named_edition frames named_frames stream_checks stream_state streams signals capi
+VERIFIED := bits key lengths refusals tagged untagged length_codes captures generators preoutput strokes authenticator machine startup strings payload checks frame_checks mode_checks limits grain128aead grain128a grainv1 named_edition frames named_frames stream_checks stream_state streams signals capi capi_c
 PROVED := $(shell find $(foreach crate,$(VERIFIED),$(wildcard $(addprefix crates/$(crate)/,src specs proofs))))
 
 build/libtikhoplav.a: crates.txt $(PROVED) | $(OUT)
-	rt staticlib capi
-	cp target/staticlib/libcapi.a $@
+	cd crates/capi_c && rt lib
+	cp crates/capi_c/out/libcapi_c.a $@
+
+# rt builds a program to run it. What it writes is compared.
+programs: have-rt | $(OUT)
+	@for program in vectors table3 editions engines; do \
+	  (cd crates/$$program && rt run | cmp - stdout) && cp crates/$$program/out/$$program build/ || exit 1; \
+	done
 
 # The Rust crates: what all share, the tool, the independent implementation, and the two programs that use it.
 RUST := $(RUSTC) --edition 2021 -C opt-level=3 -C linker=$(CC)
@@ -70,9 +77,9 @@ $(OUT)/harness: tests/harness/main.rs $(wildcard tests/harness/*.rs tests/harnes
 	$(RUST) --crate-name harness $(EXTERNS) -o $@ $<
 
 # What the bench times beside the calls.
-$(OUT)/libprobes.a: crates.txt $(PROVED) $(shell find crates/probes -type f) | $(OUT)
-	rt staticlib probes
-	cp target/staticlib/libprobes.a $@
+$(OUT)/libprobes.a: crates.txt $(PROVED) $(shell find $(wildcard $(addprefix crates/probes/,src specs proofs))) | $(OUT)
+	cd crates/probes && rt lib
+	cp crates/probes/out/libprobes.a $@
 
 $(OUT)/bench: bench/main.rs $(wildcard bench/*.rs) $(SHARED) $(MODEL) $(OUT)/libprobes.a
 	$(RUST) --crate-name bench $(EXTERNS) -L native=$(OUT) -o $@ $<

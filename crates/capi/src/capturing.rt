@@ -6,24 +6,21 @@ ghost use Rattle.captures.specs.Calls.{frames, found, start_of, size_of};
 use captures::FrameNumber;
 
 // How many frames a capture has, or minus the refusal.
-#[unsafe(no_mangle)]
-pub extern "C" fn tikhoplav_capture_frames(capture: &[u8]) -> i64
+pub fn tikhoplav_capture_frames(capture: &[u8]) -> i64
     ensures { result ≡ signed_of (frames capture.now) }
 {
     refusals::signed(captures::frames(capture))
 }
 
 // Where the body of the frame with a number begins in the capture, or minus the refusal.
-#[unsafe(no_mangle)]
-pub extern "C" fn tikhoplav_capture_frame(capture: &[u8], number: u64) -> i64
+pub fn tikhoplav_capture_frame(capture: &[u8], number: u64) -> i64
     ensures { result ≡ signed_of (start_of (found capture.now number)) }
 {
     refusals::signed(captures::frame_start(capture, FrameNumber(number)))
 }
 
 // The length of that body, or minus the refusal.
-#[unsafe(no_mangle)]
-pub extern "C" fn tikhoplav_capture_frame_size(capture: &[u8], number: u64) -> i64
+pub fn tikhoplav_capture_frame_size(capture: &[u8], number: u64) -> i64
     ensures { result ≡ signed_of (size_of (found capture.now number)) }
 {
     refusals::signed(captures::frame_size(capture, FrameNumber(number)))

@@ -6,8 +6,7 @@ ghost use Rattle.named_frames.specs.Calls as named;
 
 use named_frames::{making, reading};
 
-#[unsafe(no_mangle)]
-pub extern "C" fn tikhoplav_frame_make(
+pub fn tikhoplav_frame_make(
     key: &[u8],
     nonce: &[u8],
     identifier: u32,
@@ -19,8 +18,7 @@ pub extern "C" fn tikhoplav_frame_make(
     refusals::signed(frames::make(key, nonce, identifier, message, out))
 }
 
-#[unsafe(no_mangle)]
-pub extern "C" fn tikhoplav_frame_read(
+pub fn tikhoplav_frame_read(
     key: &[u8],
     nonce: &[u8],
     identifier: u32,
@@ -33,8 +31,7 @@ pub extern "C" fn tikhoplav_frame_read(
     refusals::signed(frames::read(key, nonce, identifier, code, field, out))
 }
 
-#[unsafe(no_mangle)]
-pub extern "C" fn tikhoplav_frame_make_edition(
+pub fn tikhoplav_frame_make_edition(
     edition: u32,
     key: &[u8],
     nonce: &[u8],
@@ -47,8 +44,7 @@ pub extern "C" fn tikhoplav_frame_make_edition(
     refusals::signed(making::make(edition, key, nonce, identifier, message, out))
 }
 
-#[unsafe(no_mangle)]
-pub extern "C" fn tikhoplav_frame_read_edition(
+pub fn tikhoplav_frame_read_edition(
     edition: u32,
     key: &[u8],
     nonce: &[u8],

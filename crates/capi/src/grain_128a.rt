@@ -2,8 +2,7 @@
 ghost use Rattle.refusals.specs.Signed.{Returns};
 ghost use Rattle.grain128a.specs.Calls as calls;
 
-#[unsafe(no_mangle)]
-pub extern "C" fn tikhoplav_grain128a_seal(
+pub fn tikhoplav_grain128a_seal(
     key: &[u8],
     nonce: &[u8],
     tag_bits: u32,
@@ -15,8 +14,7 @@ pub extern "C" fn tikhoplav_grain128a_seal(
     refusals::signed(grain128a::seal(key, nonce, tag_bits, message, out))
 }
 
-#[unsafe(no_mangle)]
-pub extern "C" fn tikhoplav_grain128a_open(
+pub fn tikhoplav_grain128a_open(
     key: &[u8],
     nonce: &[u8],
     tag_bits: u32,
@@ -28,13 +26,7 @@ pub extern "C" fn tikhoplav_grain128a_open(
     refusals::signed(grain128a::open(key, nonce, tag_bits, sealed, out))
 }
 
-#[unsafe(no_mangle)]
-pub extern "C" fn tikhoplav_grain128a_crypt(
-    key: &[u8],
-    nonce: &[u8],
-    message: &[u8],
-    out: &mut [u8],
-) -> i64
+pub fn tikhoplav_grain128a_crypt(key: &[u8], nonce: &[u8], message: &[u8], out: &mut [u8]) -> i64
     ensures { Returns (calls.crypted key.now nonce.now message.now out.old) result out.new }
 {
     refusals::signed(grain128a::crypt(key, nonce, message, out))

@@ -1,5 +1,6 @@
-// The calls for C: plain numbers and byte slices. A success is a number from 0 on, refusal n is minus n.
+// The calls: plain numbers and byte slices. A success is a number from 0 on, refusal n is minus n.
 #![tactic(auto)]
+
 pub mod capturing;
 pub mod codes;
 pub mod framing;
@@ -16,34 +17,19 @@ ghost use Rattle.named_edition.specs.Calls as named;
 
 use named_edition::{opening, sealing};
 
-#[unsafe(no_mangle)]
-pub extern "C" fn tikhoplav_seal(
-    key: &[u8],
-    nonce: &[u8],
-    ad: &[u8],
-    message: &[u8],
-    out: &mut [u8],
-) -> i64
+pub fn tikhoplav_seal(key: &[u8], nonce: &[u8], ad: &[u8], message: &[u8], out: &mut [u8]) -> i64
     ensures { Returns (calls.sealed key.now nonce.now ad.now message.now out.old) result out.new }
 {
     refusals::signed(grain128aead::seal(key, nonce, ad, message, out))
 }
 
-#[unsafe(no_mangle)]
-pub extern "C" fn tikhoplav_open(
-    key: &[u8],
-    nonce: &[u8],
-    ad: &[u8],
-    sealed: &[u8],
-    out: &mut [u8],
-) -> i64
+pub fn tikhoplav_open(key: &[u8], nonce: &[u8], ad: &[u8], sealed: &[u8], out: &mut [u8]) -> i64
     ensures { Returns (calls.opened key.now nonce.now ad.now sealed.now out.old) result out.new }
 {
     refusals::signed(grain128aead::open(key, nonce, ad, sealed, out))
 }
 
-#[unsafe(no_mangle)]
-pub extern "C" fn tikhoplav_seal_edition(
+pub fn tikhoplav_seal_edition(
     edition: u32,
     key: &[u8],
     nonce: &[u8],
@@ -56,8 +42,7 @@ pub extern "C" fn tikhoplav_seal_edition(
     refusals::signed(sealing::seal(edition, key, nonce, ad, message, out))
 }
 
-#[unsafe(no_mangle)]
-pub extern "C" fn tikhoplav_open_edition(
+pub fn tikhoplav_open_edition(
     edition: u32,
     key: &[u8],
     nonce: &[u8],
@@ -71,8 +56,7 @@ pub extern "C" fn tikhoplav_open_edition(
 }
 
 // The length of the ciphertext part. The tag part begins behind it, and runs to the end.
-#[unsafe(no_mangle)]
-pub extern "C" fn tikhoplav_ciphertext_size(sealed: &[u8]) -> i64
+pub fn tikhoplav_ciphertext_size(sealed: &[u8]) -> i64
     ensures { result ≡ pos (length (payload.ciphertext_part sealed.now)) }
 {
     let part = payload::parts::ciphertext_part(sealed);

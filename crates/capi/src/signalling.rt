@@ -6,8 +6,7 @@ ghost use Rattle.signals.specs.Calls.{scaling, is_signed_of, decoded, answer, bi
 use signals::Scaling;
 
 // Writes the bits of a signal's value. Answers 1 where it is below its limits, 2 within, 3 above, 4 not finite, or minus the refusal.
-#[unsafe(no_mangle)]
-pub extern "C" fn tikhoplav_signal(
+pub fn tikhoplav_signal(
     message: &[u8],
     start: u32,
     width: u32,

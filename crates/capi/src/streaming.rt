@@ -6,20 +6,13 @@ ghost use Rattle.streams.specs.Signed.{Returns};
 
 use stream_checks::counts::Kind;
 
-#[unsafe(no_mangle)]
-pub extern "C" fn tikhoplav_sealing_begin(
-    state: &mut [u8],
-    key: &[u8],
-    nonce: &[u8],
-    announced: usize,
-) -> i64
+pub fn tikhoplav_sealing_begin(state: &mut [u8], key: &[u8], nonce: &[u8], announced: usize) -> i64
     ensures { Returns (called (Begin Sealing 1 key.now nonce.now announced) state.old) result state.new [] }
 {
     refusals::signed(streams::begin(Kind::Sealing, 1, state, key, nonce, announced))
 }
 
-#[unsafe(no_mangle)]
-pub extern "C" fn tikhoplav_sealing_begin_edition(
+pub fn tikhoplav_sealing_begin_edition(
     edition: u32,
     state: &mut [u8],
     key: &[u8],
@@ -31,41 +24,31 @@ pub extern "C" fn tikhoplav_sealing_begin_edition(
     refusals::signed(streams::begin(Kind::Sealing, edition, state, key, nonce, announced))
 }
 
-#[unsafe(no_mangle)]
-pub extern "C" fn tikhoplav_sealing_ad(state: &mut [u8], piece: &[u8]) -> i64
+pub fn tikhoplav_sealing_ad(state: &mut [u8], piece: &[u8]) -> i64
     ensures { Returns (called (Ad Sealing piece.now) state.old) result state.new [] }
 {
     refusals::signed(streams::ad(Kind::Sealing, state, piece))
 }
 
-#[unsafe(no_mangle)]
-pub extern "C" fn tikhoplav_sealing_message(state: &mut [u8], piece: &[u8], out: &mut [u8]) -> i64
+pub fn tikhoplav_sealing_message(state: &mut [u8], piece: &[u8], out: &mut [u8]) -> i64
     ensures { Returns (called (Message piece.now out.old) state.old) result state.new out.new }
 {
     refusals::signed(streams::message(state, piece, out))
 }
 
-#[unsafe(no_mangle)]
-pub extern "C" fn tikhoplav_sealing_finish(state: &mut [u8], out: &mut [u8]) -> i64
+pub fn tikhoplav_sealing_finish(state: &mut [u8], out: &mut [u8]) -> i64
     ensures { Returns (called (FinishSealing out.old) state.old) result state.new out.new }
 {
     refusals::signed(streams::finish_sealing(state, out))
 }
 
-#[unsafe(no_mangle)]
-pub extern "C" fn tikhoplav_checking_begin(
-    state: &mut [u8],
-    key: &[u8],
-    nonce: &[u8],
-    announced: usize,
-) -> i64
+pub fn tikhoplav_checking_begin(state: &mut [u8], key: &[u8], nonce: &[u8], announced: usize) -> i64
     ensures { Returns (called (Begin Checking 1 key.now nonce.now announced) state.old) result state.new [] }
 {
     refusals::signed(streams::begin(Kind::Checking, 1, state, key, nonce, announced))
 }
 
-#[unsafe(no_mangle)]
-pub extern "C" fn tikhoplav_checking_begin_edition(
+pub fn tikhoplav_checking_begin_edition(
     edition: u32,
     state: &mut [u8],
     key: &[u8],
@@ -77,22 +60,19 @@ pub extern "C" fn tikhoplav_checking_begin_edition(
     refusals::signed(streams::begin(Kind::Checking, edition, state, key, nonce, announced))
 }
 
-#[unsafe(no_mangle)]
-pub extern "C" fn tikhoplav_checking_ad(state: &mut [u8], piece: &[u8]) -> i64
+pub fn tikhoplav_checking_ad(state: &mut [u8], piece: &[u8]) -> i64
     ensures { Returns (called (Ad Checking piece.now) state.old) result state.new [] }
 {
     refusals::signed(streams::ad(Kind::Checking, state, piece))
 }
 
-#[unsafe(no_mangle)]
-pub extern "C" fn tikhoplav_checking_ciphertext(state: &mut [u8], piece: &[u8]) -> i64
+pub fn tikhoplav_checking_ciphertext(state: &mut [u8], piece: &[u8]) -> i64
     ensures { Returns (called (Ciphertext piece.now) state.old) result state.new [] }
 {
     refusals::signed(streams::ciphertext(state, piece))
 }
 
-#[unsafe(no_mangle)]
-pub extern "C" fn tikhoplav_checking_finish(state: &mut [u8], tag: &[u8]) -> i64
+pub fn tikhoplav_checking_finish(state: &mut [u8], tag: &[u8]) -> i64
     ensures { Returns (called (FinishChecking tag.now) state.old) result state.new [] }
 {
     refusals::signed(streams::finish_checking(state, tag))

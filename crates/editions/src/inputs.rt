@@ -9,9 +9,7 @@ pub const NONCE: [u8; 12] = [
 
 // Fills a string with 00, 01, 02 and so on.
 pub fn count(bytes: &mut [u8]) {
-    let mut i: usize = 0;
-    while i < bytes.len() {
-        bytes[i] = (i % 256) as u8;
-        i += 1;
+    for (i, byte) in bytes.iter_mut().enumerate() {
+        *byte = (i % 256) as u8;
     }
 }

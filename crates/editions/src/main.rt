@@ -1,31 +1,37 @@
 // Shows the second edition beside the first: the loading and the first pre-outputs in both orders of bits, the second edition's start-up from
 // each, and payloads of both editions from the same inputs.
 #![tactic(auto)]
+
 mod inputs;
 mod payloads;
 mod shown;
 mod starts;
 
 use machine::edition::Edition;
+use std::io;
 
-fn main() {
+fn main(rt: HostRuntime) -> io::Result<()> {
     starts::loading(
-        b"loaded with the bits of every byte from the lowest up",
+        &rt,
+        "loaded with the bits of every byte from the lowest up",
         Edition::Second,
-    );
+    )?;
     starts::loading(
-        b"loaded with the bits of every byte from the top down",
+        &rt,
+        "loaded with the bits of every byte from the top down",
         Edition::First,
-    );
+    )?;
     starts::start_up(
-        b"second edition's start-up, bits from the lowest up",
+        &rt,
+        "second edition's start-up, bits from the lowest up",
         Edition::Second,
-    );
+    )?;
     starts::start_up(
-        b"second edition's start-up, bits from the top down",
+        &rt,
+        "second edition's start-up, bits from the top down",
         Edition::First,
-    );
-    starts::started(b"edition 1, started", Edition::First);
-    starts::started(b"edition 2, started", Edition::Second);
-    payloads::all();
+    )?;
+    starts::started(&rt, "edition 1, started", Edition::First)?;
+    starts::started(&rt, "edition 2, started", Edition::Second)?;
+    payloads::all(&rt)
 }

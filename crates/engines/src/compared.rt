@@ -1,7 +1,7 @@
 // The two engines beside one another.
 use crate::states;
-use libc::STDOUT_FILENO;
 use preoutput::{Adding, Run, plain};
+use std::io;
 
 const STATES: usize = 100;
 
@@ -21,8 +21,7 @@ fn same(a: Run, b: Run) -> bool {
 fn agree(to_add: Adding, clocks: usize) -> bool {
     let mut seed: u64 = FIRST;
     let mut all = true;
-    let mut i: usize = 0;
-    while i < STATES {
+    for _ in 0..STATES {
         let begun = states::state(seed);
         if !same(
             plain::run(begun, to_add, clocks),
@@ -31,25 +30,20 @@ fn agree(to_add: Adding, clocks: usize) -> bool {
             all = false;
         }
         seed = states::after(begun.outputs);
-        i += 1;
     }
     all
 }
 
 // Also shows the last 64 pre-outputs from the first state.
-pub fn line(name: &[u8], to_add: Adding, clocks: usize) {
-    if agree(to_add, clocks) {
-        io::write_all(STDOUT_FILENO, b"the same  ");
+pub fn line(rt: &impl Print, name: &str, to_add: Adding, clocks: usize) -> io::Result<()> {
+    let verdict = if agree(to_add, clocks) {
+        "the same"
     } else {
-        io::write_all(STDOUT_FILENO, b"NOT       ");
-    }
-    io::write_all(STDOUT_FILENO, name);
-    io::write_all(STDOUT_FILENO, b", ");
-    io::print_decimal(STDOUT_FILENO, clocks as u64);
-    io::write_all(STDOUT_FILENO, b" clocks, ");
-    io::print_decimal(STDOUT_FILENO, STATES as u64);
-    io::write_all(STDOUT_FILENO, b" states; the first ends in pre-outputs ");
+        "NOT"
+    };
     let first = strokes::run(states::state(FIRST), to_add, clocks);
-    io::print_hex(STDOUT_FILENO, first.outputs, 16);
-    io::write_all(STDOUT_FILENO, b"\n");
+    let outputs = first.outputs;
+    println!(rt;
+        "{verdict:<8}  {name}, {clocks} clocks, {STATES} states; the first ends in pre-outputs {outputs:016x}"
+    )
 }

@@ -1,25 +1,27 @@
 // Runs the plain engine and the engine of strokes beside one another, on many states, in each way of running and over many counts of
 // clocks, and compares the registers and the pre-outputs that they end in. Prints a line for each way and count.
 #![tactic(auto)]
+
 mod compared;
 mod states;
 
 use preoutput::Adding;
+use std::io;
 
 const COUNTS: [usize; 14] = [0, 1, 2, 16, 31, 32, 33, 63, 64, 65, 95, 96, 97, 1000];
 
 // A line for each count.
-fn way(name: &[u8], to_add: Adding) {
-    let mut i: usize = 0;
-    while i < 14 {
-        compared::line(name, to_add, COUNTS[i]);
-        i += 1;
+fn way(rt: &impl Print, name: &str, to_add: Adding) -> io::Result<()> {
+    for clocks in COUNTS {
+        compared::line(rt, name, to_add, clocks)?;
     }
+    Ok(())
 }
 
-fn main() {
+fn main(rt: HostRuntime) -> io::Result<()> {
     way(
-        b"plain",
+        &rt,
+        "plain",
         Adding {
             fed: false,
             lfsr0: 0,
@@ -27,9 +29,10 @@ fn main() {
             nfsr0: 0,
             nfsr1: 0,
         },
-    );
+    )?;
     way(
-        b"fed back",
+        &rt,
+        "fed back",
         Adding {
             fed: true,
             lfsr0: 0,
@@ -37,9 +40,10 @@ fn main() {
             nfsr0: 0,
             nfsr1: 0,
         },
-    );
+    )?;
     way(
-        b"with 128 key bits",
+        &rt,
+        "with 128 key bits",
         Adding {
             fed: false,
             lfsr0: 0x0123_4567_89ab_cdef,
@@ -47,9 +51,10 @@ fn main() {
             nfsr0: 0,
             nfsr1: 0,
         },
-    );
+    )?;
     way(
-        b"fed back, with bits added to both registers",
+        &rt,
+        "fed back, with bits added to both registers",
         Adding {
             fed: true,
             lfsr0: 0x0123_4567_89ab_cdef,
@@ -57,5 +62,5 @@ fn main() {
             nfsr0: 0xfedc_ba98_7654_3210,
             nfsr1: 0x0fed_cba9_8765_4321,
         },
-    );
+    )
 }

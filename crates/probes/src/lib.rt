@@ -1,5 +1,6 @@
 // What the benchmark times beside the calls: each engine by itself, and start-up. No part of the archive.
 #![tactic(auto)]
+
 ghost use Rattle.std.specs.Prelude.{◌≡◌};
 ghost use Rattle.bits.specs.Bytes.{word};
 ghost use Rattle.machine.specs.declared.edition.Edition.TheVariants.{First};

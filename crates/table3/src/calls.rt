@@ -3,6 +3,7 @@ use crate::table::{COLUMNS, CUT_TAGS, Column, ROWS, Rows, Tag};
 use crate::tally;
 use crate::tally::{Tally, WORDS};
 use capi::grain_128a;
+use std::io;
 
 // The eight bytes of a slice from place n on; where it does not have them, all of it.
 fn eight(s: &[u8], n: usize) -> &[u8] {
@@ -35,7 +36,7 @@ fn open(c: Column, tag_bits: u32, sealed: &[u8], out: &mut [u8]) -> i64 {
 
 // The bytes at the front of a call's output that its answer counts; none where it refused.
 fn written(out: &[u8], answer: i64) -> &[u8] {
-    let n = io::count(answer as isize, out);
+    let n = usize::try_from(answer).unwrap_or(0).min(out.len());
     &out[..n]
 }
 
@@ -44,7 +45,7 @@ fn word_at(s: &[u8], n: usize) -> u64 {
 }
 
 // The pre-output stream, added to zeros and then to what that gave.
-fn crypted(t: Tally, c: Column) -> Tally {
+fn crypted(rt: &impl Print, t: Tally, c: Column) -> io::Result<Tally> {
     let mut out = [0xeeu8; 40];
     let mut back = [0xeeu8; 40];
     let answer = crypt(c, &[0; 40], &mut out);
@@ -58,20 +59,21 @@ fn crypted(t: Tally, c: Column) -> Tally {
     ];
     let expected = c.preoutputs;
     let t1 = tally::row(
+        rt,
         t,
         c.number,
-        b"crypt of zeros, pre-output stream, word ",
-        b"",
+        "crypt of zeros, pre-output stream, word ",
+        "",
         WORDS,
         &found,
         &expected,
-    );
-    let ok = again == 40 && check::same(&back, &[0; 40]);
-    tally::line(t1, c.number, b"crypt of these 40 bytes gives zeros", ok)
+    )?;
+    let ok = again == 40 && back == [0; 40];
+    tally::line(rt, t1, c.number, "crypt of these 40 bytes gives zeros", ok)
 }
 
 // The keystream, added to zeros.
-fn sealed(t: Tally, c: Column, r: Rows) -> Tally {
+fn sealed(rt: &impl Print, t: Tally, c: Column, r: Rows) -> io::Result<Tally> {
     let mut out = [0xeeu8; 20];
     let mut back = [0xeeu8; 16];
     let answer = seal(c, 32, &[0; 16], &mut out);
@@ -79,37 +81,36 @@ fn sealed(t: Tally, c: Column, r: Rows) -> Tally {
     let keystream = r.keystream;
     let k1 = tally::hex(16, word_at(&out, 0), keystream[0]);
     let k2 = tally::hex(16, word_at(&out, 8), keystream[1]);
-    let t1 = tally::cell(t, c.number, b"seal of zeros, keystream, word 1", k1);
-    let t2 = tally::cell(t1, c.number, b"seal of zeros, keystream, word 2", k2);
-    let ok = again == 16 && check::same(&back, &[0; 16]);
+    let t1 = tally::cell(rt, t, c.number, "seal of zeros, keystream, word 1", k1)?;
+    let t2 = tally::cell(rt, t1, c.number, "seal of zeros, keystream, word 2", k2)?;
+    let ok = again == 16 && back == [0; 16];
     tally::line(
+        rt,
         t2,
         c.number,
-        b"open of these 16 bytes and the tag gives zeros",
+        "open of these 16 bytes and the tag gives zeros",
         ok,
     )
 }
 
 // A tag of m0, sealed and opened.
-fn sealed_tag(t: Tally, c: Column, tag: Tag) -> Tally {
+fn sealed_tag(rt: &impl Print, t: Tally, c: Column, tag: Tag) -> io::Result<Tally> {
     let mut out = [0xeeu8; 5];
     let mut back = [0xeeu8; 1];
     let answer = seal(c, tag.bits, b"", &mut out);
     let again = open(c, tag.bits, written(&out, answer), &mut back);
     let v = tally::hex(2, bits::number(written(&out, tag.size)), tag.bytes);
     let n = tag.bits as usize;
-    let t1 = tally::numbered(t, c.number, b"seal with tag_bits ", n, b", tag(m0)", v);
-    tally::line(t1, c.number, b"open of this tag gives m0", again == 0)
+    let t1 = tally::numbered(rt, t, c.number, "seal with tag_bits ", n, ", tag(m0)", v)?;
+    tally::line(rt, t1, c.number, "open of this tag gives m0", again == 0)
 }
 
-fn sealed_tags(t: Tally, c: Column) -> Tally {
+fn sealed_tags(rt: &impl Print, t: Tally, c: Column) -> io::Result<Tally> {
     let mut counts = t;
-    let mut i: usize = 0;
-    while i < 4 {
-        counts = sealed_tag(counts, c, CUT_TAGS[i]);
-        i += 1;
+    for tag in CUT_TAGS {
+        counts = sealed_tag(rt, counts, c, tag)?;
     }
-    counts
+    Ok(counts)
 }
 
 // The answers for m0.
@@ -124,17 +125,17 @@ fn seal_empty(c: Column) -> i64 {
 }
 
 // The blank key, and the nonces of the other mode.
-fn refused(t: Tally) -> Tally {
-    let t1 = tally::line(t, 1, b"crypt gives -15", crypt_empty(COLUMNS[0]) == -15);
-    let t2 = tally::line(t1, 1, b"seal gives -15", seal_empty(COLUMNS[0]) == -15);
-    let t3 = tally::line(t2, 2, b"seal gives -19", seal_empty(COLUMNS[1]) == -19);
-    let t4 = tally::line(t3, 3, b"crypt gives -15", crypt_empty(COLUMNS[2]) == -15);
-    let t5 = tally::line(t4, 3, b"seal gives -15", seal_empty(COLUMNS[2]) == -15);
-    tally::line(t5, 4, b"crypt gives -19", crypt_empty(COLUMNS[3]) == -19)
+fn refused(rt: &impl Print, t: Tally) -> io::Result<Tally> {
+    let t1 = tally::line(rt, t, 1, "crypt gives -15", crypt_empty(COLUMNS[0]) == -15)?;
+    let t2 = tally::line(rt, t1, 1, "seal gives -15", seal_empty(COLUMNS[0]) == -15)?;
+    let t3 = tally::line(rt, t2, 2, "seal gives -19", seal_empty(COLUMNS[1]) == -19)?;
+    let t4 = tally::line(rt, t3, 3, "crypt gives -15", crypt_empty(COLUMNS[2]) == -15)?;
+    let t5 = tally::line(rt, t4, 3, "seal gives -15", seal_empty(COLUMNS[2]) == -15)?;
+    tally::line(rt, t5, 4, "crypt gives -19", crypt_empty(COLUMNS[3]) == -19)
 }
 
-pub fn run(t: Tally) -> Tally {
-    let t1 = crypted(t, COLUMNS[1]);
-    let t2 = sealed(t1, COLUMNS[3], ROWS[1]);
-    refused(sealed_tags(t2, COLUMNS[3]))
+pub fn run(rt: &impl Print, t: Tally) -> io::Result<Tally> {
+    let t1 = crypted(rt, t, COLUMNS[1])?;
+    let t2 = sealed(rt, t1, COLUMNS[3], ROWS[1])?;
+    refused(rt, sealed_tags(rt, t2, COLUMNS[3])?)
 }

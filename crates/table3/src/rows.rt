@@ -8,6 +8,7 @@ use machine::engine;
 use machine::engine::Engine;
 use preoutput::Registers;
 use startup::loading;
+use std::io;
 use strokes::streams;
 use strokes::streams::{Keystreamed, Streamed};
 
@@ -39,7 +40,7 @@ fn next(g: Registers) -> Keystreamed {
     }
 }
 
-fn preoutputs_of(t: Tally, c: Column) -> Tally {
+fn preoutputs_of(rt: &impl Print, t: Tally, c: Column) -> io::Result<Tally> {
     let w1 = next(warmed(c));
     let w2 = next(w1.registers);
     let w3 = next(w2.registers);
@@ -54,24 +55,23 @@ fn preoutputs_of(t: Tally, c: Column) -> Tally {
     ];
     let expected = c.preoutputs;
     tally::row(
+        rt,
         t,
         c.number,
-        b"pre-output stream, word ",
-        b"",
+        "pre-output stream, word ",
+        "",
         WORDS,
         &found,
         &expected,
     )
 }
 
-pub fn preoutputs(t: Tally) -> Tally {
+pub fn preoutputs(rt: &impl Print, t: Tally) -> io::Result<Tally> {
     let mut counts = t;
-    let mut i: usize = 0;
-    while i < 4 {
-        counts = preoutputs_of(counts, COLUMNS[i]);
-        i += 1;
+    for c in COLUMNS {
+        counts = preoutputs_of(rt, counts, c)?;
     }
-    counts
+    Ok(counts)
 }
 
 // The keystream and the macstream of the next 64 string bits.
@@ -86,7 +86,13 @@ fn next_of_both(g: Registers) -> Streamed {
     }
 }
 
-fn streams_of(t: Tally, column: usize, r: Rows, g: Registers) -> Tally {
+fn streams_of(
+    rt: &impl Print,
+    t: Tally,
+    column: usize,
+    r: Rows,
+    g: Registers,
+) -> io::Result<Tally> {
     let keystream = r.keystream;
     let macstream = r.macstream;
     let first = next_of_both(g);
@@ -95,26 +101,24 @@ fn streams_of(t: Tally, column: usize, r: Rows, g: Registers) -> Tally {
     let k2 = tally::hex(16, second.keystream, keystream[1]);
     let m1 = tally::hex(16, first.authentication, macstream[0]);
     let m2 = tally::hex(16, second.authentication, macstream[1]);
-    let t1 = tally::cell(t, column, b"keystream, word 1", k1);
-    let t2 = tally::cell(t1, column, b"keystream, word 2", k2);
-    let t3 = tally::cell(t2, column, b"macstream, word 1", m1);
-    tally::cell(t3, column, b"macstream, word 2", m2)
+    let t1 = tally::cell(rt, t, column, "keystream, word 1", k1)?;
+    let t2 = tally::cell(rt, t1, column, "keystream, word 2", k2)?;
+    let t3 = tally::cell(rt, t2, column, "macstream, word 1", m1)?;
+    tally::cell(rt, t3, column, "macstream, word 2", m2)
 }
 
 // The tag of 32 bits, of a message whose bits the machine takes one by one.
 fn tag_of(e: Engine, m: Message) -> u64 {
     let mut now = e;
     let mut bits = m.bits;
-    let mut left = m.size;
-    while 0 < left {
+    for _ in 0..m.size {
         now = engine::absorb_bit(now, bits >> 63);
         bits = bits << 1;
-        left -= 1;
     }
     low(engine::finish(now))
 }
 
-fn tags_of(t: Tally, column: usize, r: Rows, e: Engine) -> Tally {
+fn tags_of(rt: &impl Print, t: Tally, column: usize, r: Rows, e: Engine) -> io::Result<Tally> {
     let found = [
         tag_of(e, MESSAGES[0]),
         tag_of(e, MESSAGES[1]),
@@ -123,30 +127,30 @@ fn tags_of(t: Tally, column: usize, r: Rows, e: Engine) -> Tally {
         tag_of(e, MESSAGES[4]),
     ];
     let expected = r.tags;
-    tally::row(t, column, b"tag(m", b")", TAGS, &found, &expected)
+    tally::row(rt, t, column, "tag(m", ")", TAGS, &found, &expected)
 }
 
-fn authenticated_of(t: Tally, c: Column, r: Rows) -> Tally {
+fn authenticated_of(rt: &impl Print, t: Tally, c: Column, r: Rows) -> io::Result<Tally> {
     let n = c.number;
     let e = starting::fill(warmed(c));
     let begun = e.tagger;
     let accumulator = tally::hex(8, low(begun.accumulator), r.accumulator);
     let register = tally::hex(8, low(begun.register), r.register);
-    let t1 = tally::cell(t, n, b"accumulator", accumulator);
-    let t2 = tally::cell(t1, n, b"register", register);
-    let t3 = streams_of(t2, n, r, e.registers);
-    tags_of(t3, n, r, e)
+    let t1 = tally::cell(rt, t, n, "accumulator", accumulator)?;
+    let t2 = tally::cell(rt, t1, n, "register", register)?;
+    let t3 = streams_of(rt, t2, n, r, e.registers)?;
+    tags_of(rt, t3, n, r, e)
 }
 
 // Columns 3 and 4.
-pub fn authenticated(t: Tally) -> Tally {
-    let t1 = authenticated_of(t, COLUMNS[2], ROWS[0]);
-    authenticated_of(t1, COLUMNS[3], ROWS[1])
+pub fn authenticated(rt: &impl Print, t: Tally) -> io::Result<Tally> {
+    let t1 = authenticated_of(rt, t, COLUMNS[2], ROWS[0])?;
+    authenticated_of(rt, t1, COLUMNS[3], ROWS[1])
 }
 
-pub fn short_tag(t: Tally) -> Tally {
+pub fn short_tag(rt: &impl Print, t: Tally) -> io::Result<Tally> {
     let c = COLUMNS[3];
     let tag = tag_of(starting::fill(warmed(c)), MESSAGES[4]);
     let v = tally::hex(4, tag % 0x1_0000, SHORT_TAG);
-    tally::cell(t, c.number, b"tag(m4) of 16 bits", v)
+    tally::cell(rt, t, c.number, "tag(m4) of 16 bits", v)
 }

@@ -1,5 +1,5 @@
 // Counts what came out as expected and what did not, with a line for each, which names the column and the row.
-use libc::STDOUT_FILENO;
+use std::io;
 
 #[derive(Clone, Copy)]
 pub struct Tally {
@@ -10,13 +10,13 @@ pub struct Tally {
 fn counted(t: Tally, ok: bool) -> Tally {
     if ok {
         Tally {
-            good: std::num::wrapping_add_u32(t.good, 1),
+            good: t.good.wrapping_add(1),
             bad: t.bad,
         }
     } else {
         Tally {
             good: t.good,
-            bad: std::num::wrapping_add_u32(t.bad, 1),
+            bad: t.bad.wrapping_add(1),
         }
     }
 }
@@ -38,41 +38,43 @@ pub fn hex(digits: usize, found: u64, expected: u64) -> Compared {
 }
 
 // The line up to the row's name.
-fn begin(ok: bool, column: usize, row: &[u8]) {
-    if ok {
-        io::write_all(STDOUT_FILENO, b"as expected  column ");
-    } else {
-        io::write_all(STDOUT_FILENO, b"NOT          column ");
-    }
-    io::print_decimal(STDOUT_FILENO, column as u64);
-    io::write_all(STDOUT_FILENO, b", ");
-    io::write_all(STDOUT_FILENO, row);
+fn begin(rt: &impl Print, ok: bool, column: usize, row: &str) -> io::Result<()> {
+    let verdict = if ok { "as expected" } else { "NOT" };
+    print!(rt; "{verdict:<11}  column {column}, {row}")
 }
 
 // The rest of it: what came out, and what was expected where that is something else.
-fn end(v: Compared) {
-    io::write_all(STDOUT_FILENO, b": ");
-    io::print_hex(STDOUT_FILENO, v.found, v.digits);
-    if v.found != v.expected {
-        io::write_all(STDOUT_FILENO, b" and not ");
-        io::print_hex(STDOUT_FILENO, v.expected, v.digits);
+fn end(rt: &impl Print, v: Compared) -> io::Result<()> {
+    let digits = v.digits;
+    let found = v.found;
+    let expected = v.expected;
+    print!(rt; ": {found:0digits$x}")?;
+    if found != expected {
+        print!(rt; " and not {expected:0digits$x}")?;
     }
-    io::write_all(STDOUT_FILENO, b"\n");
+    println!(rt)
 }
 
-pub fn cell(t: Tally, column: usize, row: &[u8], v: Compared) -> Tally {
-    begin(v.found == v.expected, column, row);
-    end(v);
-    counted(t, v.found == v.expected)
+pub fn cell(rt: &impl Print, t: Tally, column: usize, row: &str, v: Compared) -> io::Result<Tally> {
+    begin(rt, v.found == v.expected, column, row)?;
+    end(rt, v)?;
+    Ok(counted(t, v.found == v.expected))
 }
 
 // A cell whose name has a number in it.
-pub fn numbered(t: Tally, column: usize, name: &[u8], n: usize, rest: &[u8], v: Compared) -> Tally {
-    begin(v.found == v.expected, column, name);
-    io::print_decimal(STDOUT_FILENO, n as u64);
-    io::write_all(STDOUT_FILENO, rest);
-    end(v);
-    counted(t, v.found == v.expected)
+pub fn numbered(
+    rt: &impl Print,
+    t: Tally,
+    column: usize,
+    name: &str,
+    n: usize,
+    rest: &str,
+    v: Compared,
+) -> io::Result<Tally> {
+    begin(rt, v.found == v.expected, column, name)?;
+    print!(rt; "{n}{rest}")?;
+    end(rt, v)?;
+    Ok(counted(t, v.found == v.expected))
 }
 
 // How the five numbers of a row are shown: what the first is numbered, and the digits of each.
@@ -93,35 +95,33 @@ pub const TAGS: Style = Style {
 };
 
 pub fn row(
+    rt: &impl Print,
     t: Tally,
     column: usize,
-    name: &[u8],
-    rest: &[u8],
+    name: &str,
+    rest: &str,
     style: Style,
     found: &[u64; 5],
     expected: &[u64; 5],
-) -> Tally {
+) -> io::Result<Tally> {
     let mut counts = t;
-    let mut i: usize = 0;
-    while i < 5 {
-        let n = std::num::wrapping_add_usize(style.first, i);
+    for i in 0..5 {
+        let n = style.first.wrapping_add(i);
         let v = hex(style.digits, found[i], expected[i]);
-        counts = numbered(counts, column, name, n, rest, v);
-        i += 1;
+        counts = numbered(rt, counts, column, name, n, rest, v)?;
     }
-    counts
+    Ok(counts)
 }
 
 // What a call does.
-pub fn line(t: Tally, column: usize, name: &[u8], ok: bool) -> Tally {
-    begin(ok, column, name);
-    io::write_all(STDOUT_FILENO, b"\n");
-    counted(t, ok)
+pub fn line(rt: &impl Print, t: Tally, column: usize, name: &str, ok: bool) -> io::Result<Tally> {
+    begin(rt, ok, column, name)?;
+    println!(rt)?;
+    Ok(counted(t, ok))
 }
 
-pub fn close(t: Tally) {
-    io::print_decimal(STDOUT_FILENO, t.good as u64);
-    io::write_all(STDOUT_FILENO, b" as expected, ");
-    io::print_decimal(STDOUT_FILENO, t.bad as u64);
-    io::write_all(STDOUT_FILENO, b" not\n");
+pub fn close(rt: &impl Print, t: Tally) -> io::Result<()> {
+    let good = t.good;
+    let bad = t.bad;
+    println!(rt; "{good} as expected, {bad} not")
 }

@@ -3,6 +3,7 @@ use crate::tally;
 use crate::tally::Tally;
 use grain128aead::sizes::AD_LIMIT;
 use limits::MESSAGE_LIMIT;
+use std::io;
 
 const KEY: [u8; 16] = [0x5a; 16];
 
@@ -56,163 +57,212 @@ fn opening(key: &[u8], ad: usize, sealed: usize, out: usize) -> i64 {
     )
 }
 
-fn ad(t: Tally, size: usize, rest: &[u8], answer: i64) -> Tally {
+fn ad(rt: &impl Print, t: Tally, size: usize, rest: &str, answer: i64) -> io::Result<Tally> {
     tally::sized(
+        rt,
         t,
-        b"AD of ",
+        "AD of ",
         size,
         rest,
         sealing(&KEY, 12, size, 0, 8) == answer,
     )
 }
 
-fn opened_with_ad(t: Tally, size: usize, rest: &[u8], answer: i64) -> Tally {
+fn opened_with_ad(
+    rt: &impl Print,
+    t: Tally,
+    size: usize,
+    rest: &str,
+    answer: i64,
+) -> io::Result<Tally> {
     tally::sized(
+        rt,
         t,
-        b"opened with an AD of ",
+        "opened with an AD of ",
         size,
         rest,
         opening(&KEY, size, 8, 0) == answer,
     )
 }
 
-fn message(t: Tally, size: usize, room: usize, rest: &[u8], answer: i64) -> Tally {
+fn message(
+    rt: &impl Print,
+    t: Tally,
+    size: usize,
+    room: usize,
+    rest: &str,
+    answer: i64,
+) -> io::Result<Tally> {
     tally::sized(
+        rt,
         t,
-        b"message of ",
+        "message of ",
         size,
         rest,
         sealing(&KEY, 12, 0, size, room) == answer,
     )
 }
 
-fn sealed_input(t: Tally, size: usize, room: usize, rest: &[u8], answer: i64) -> Tally {
+fn sealed_input(
+    rt: &impl Print,
+    t: Tally,
+    size: usize,
+    room: usize,
+    rest: &str,
+    answer: i64,
+) -> io::Result<Tally> {
     tally::sized(
+        rt,
         t,
-        b"sealed input of ",
+        "sealed input of ",
         size,
         rest,
         opening(&KEY, 0, size, room) == answer,
     )
 }
 
-pub fn edges(t: Tally) -> Tally {
-    let t1 = ad(t, AD_LIMIT, b" bytes passes", 8);
-    let t2 = ad(t1, AD_LIMIT + 1, b" bytes gives 3", -3);
-    let t3 = opened_with_ad(t2, AD_LIMIT, b" bytes goes on to 7", -7);
-    let t4 = opened_with_ad(t3, AD_LIMIT + 1, b" bytes gives 3", -3);
+pub fn edges(rt: &impl Print, t: Tally) -> io::Result<Tally> {
+    let t1 = ad(rt, t, AD_LIMIT, " bytes passes", 8)?;
+    let t2 = ad(rt, t1, AD_LIMIT + 1, " bytes gives 3", -3)?;
+    let t3 = opened_with_ad(rt, t2, AD_LIMIT, " bytes goes on to 7", -7)?;
+    let t4 = opened_with_ad(rt, t3, AD_LIMIT + 1, " bytes gives 3", -3)?;
     let t5 = message(
+        rt,
         t4,
         MESSAGE_LIMIT,
         SEALED_LIMIT,
-        b" bytes passes",
+        " bytes passes",
         SEALED_LIMIT as i64,
-    );
+    )?;
     let t6 = message(
+        rt,
         t5,
         MESSAGE_LIMIT + 1,
         SEALED_LIMIT + 1,
-        b" bytes gives 4",
+        " bytes gives 4",
         -4,
-    );
-    let t7 = sealed_input(t6, 7, 0, b" bytes gives 5", -5);
-    let t8 = sealed_input(t7, 8, 0, b" bytes goes on to 7", -7);
-    let t9 = sealed_input(t8, 9, 0, b" bytes goes on to 6", -6);
-    let t10 = sealed_input(t9, SEALED_LIMIT, MESSAGE_LIMIT, b" bytes goes on to 7", -7);
+    )?;
+    let t7 = sealed_input(rt, t6, 7, 0, " bytes gives 5", -5)?;
+    let t8 = sealed_input(rt, t7, 8, 0, " bytes goes on to 7", -7)?;
+    let t9 = sealed_input(rt, t8, 9, 0, " bytes goes on to 6", -6)?;
+    let t10 = sealed_input(
+        rt,
+        t9,
+        SEALED_LIMIT,
+        MESSAGE_LIMIT,
+        " bytes goes on to 7",
+        -7,
+    )?;
     sealed_input(
+        rt,
         t10,
         SEALED_LIMIT + 1,
         MESSAGE_LIMIT + 1,
-        b" bytes gives 4",
+        " bytes gives 4",
         -4,
     )
 }
 
-pub fn order(t: Tally) -> Tally {
+pub fn order(rt: &impl Print, t: Tally) -> io::Result<Tally> {
     let t1 = tally::line(
+        rt,
         t,
-        b"a 15-byte key with a 13-byte nonce gives 1",
+        "a 15-byte key with a 13-byte nonce gives 1",
         sealing(&[0x5a; 15], 13, 0, 0, 8) == -1,
-    );
+    )?;
     let t2 = tally::line(
+        rt,
         t1,
-        b"a 13-byte nonce with a long AD gives 2",
+        "a 13-byte nonce with a long AD gives 2",
         sealing(&KEY, 13, AD_LIMIT + 1, 0, 8) == -2,
-    );
+    )?;
     let t3 = tally::line(
+        rt,
         t2,
-        b"a long AD with a long message gives 3",
+        "a long AD with a long message gives 3",
         sealing(&KEY, 12, AD_LIMIT + 1, MESSAGE_LIMIT + 1, 8) == -3,
-    );
+    )?;
     let t4 = tally::line(
+        rt,
         t3,
-        b"a long message with no room gives 4",
+        "a long message with no room gives 4",
         sealing(&KEY, 12, 0, MESSAGE_LIMIT + 1, 0) == -4,
-    );
+    )?;
     let t5 = tally::line(
+        rt,
         t4,
-        b"output one byte short gives 6",
+        "output one byte short gives 6",
         sealing(&KEY, 12, 0, 5, 12) == -6,
-    );
+    )?;
     let t6 = tally::line(
+        rt,
         t5,
-        b"output one byte short gives 6 even if the tag is wrong",
+        "output one byte short gives 6 even if the tag is wrong",
         opening(&KEY, 0, 13, 4) == -6,
-    );
+    )?;
     tally::line(
+        rt,
         t6,
-        b"with room for it, the wrong tag gives 7",
+        "with room for it, the wrong tag gives 7",
         opening(&KEY, 0, 13, 5) == -7,
     )
 }
 
 // The blank key, and keys that are near it.
-pub fn blank_key(t: Tally) -> Tally {
+pub fn blank_key(rt: &impl Print, t: Tally) -> io::Result<Tally> {
     let t1 = tally::line(
+        rt,
         t,
-        b"a key of 16 zero bytes gives 15",
+        "a key of 16 zero bytes gives 15",
         sealing(&BLANK, 12, 0, 0, 8) == -15,
-    );
+    )?;
     let t2 = tally::line(
+        rt,
         t1,
-        b"with a 13-byte nonce and a long AD it gives 2",
+        "with a 13-byte nonce and a long AD it gives 2",
         sealing(&BLANK, 13, AD_LIMIT + 1, 0, 8) == -2,
-    );
+    )?;
     let t3 = tally::line(
+        rt,
         t2,
-        b"with a long AD, a long message and no room it gives 15",
+        "with a long AD, a long message and no room it gives 15",
         sealing(&BLANK, 12, AD_LIMIT + 1, MESSAGE_LIMIT + 1, 0) == -15,
-    );
+    )?;
     let t4 = tally::line(
+        rt,
         t3,
-        b"with a long AD and a sealed input of 7 bytes it gives 15",
+        "with a long AD and a sealed input of 7 bytes it gives 15",
         opening(&BLANK, AD_LIMIT + 1, 7, 0) == -15,
-    );
+    )?;
     let t5 = tally::line(
+        rt,
         t4,
-        b"with no room and a wrong tag it gives 15",
+        "with no room and a wrong tag it gives 15",
         opening(&BLANK, 0, 13, 4) == -15,
-    );
+    )?;
     let t6 = tally::line(
+        rt,
         t5,
-        b"15 zero bytes give 1",
+        "15 zero bytes give 1",
         sealing(&[0; 15], 12, 0, 0, 8) == -1,
-    );
+    )?;
     let t7 = tally::line(
+        rt,
         t6,
-        b"17 zero bytes give 1",
+        "17 zero bytes give 1",
         opening(&[0; 17], 0, 8, 0) == -1,
-    );
+    )?;
     let last_bit = [0, 0, 0, 0, 0, 0, 0, 0, 0, 0, 0, 0, 0, 0, 0, 1];
     tally::line(
+        rt,
         t7,
-        b"15 zero bytes and the byte 01 pass",
+        "15 zero bytes and the byte 01 pass",
         sealing(&last_bit, 12, 0, 0, 8) == 8,
     )
 }
 
 // The largest job, sealed and opened again.
-pub fn largest(t: Tally) -> Tally {
+pub fn largest(rt: &impl Print, t: Tally) -> io::Result<Tally> {
     let key = [0x11u8; 16];
     let nonce = [0x22u8; 12];
     let ad = [0x33u8; AD_LIMIT];
@@ -221,23 +271,26 @@ pub fn largest(t: Tally) -> Tally {
     let mut opened = [0u8; MESSAGE_LIMIT];
     let count = capi::tikhoplav_seal(&key, &nonce, &ad, &message, &mut sealed);
     let t1 = tally::sized(
+        rt,
         t,
-        b"largest job: sealed to ",
+        "largest job: sealed to ",
         SEALED_LIMIT,
-        b" bytes",
+        " bytes",
         count == SEALED_LIMIT as i64,
-    );
+    )?;
     let back = capi::tikhoplav_open(&key, &nonce, &ad, &sealed, &mut opened);
     let t2 = tally::sized(
+        rt,
         t1,
-        b"largest job: opened to ",
+        "largest job: opened to ",
         MESSAGE_LIMIT,
-        b" bytes",
+        " bytes",
         back == MESSAGE_LIMIT as i64,
-    );
+    )?;
     tally::line(
+        rt,
         t2,
-        b"largest job: the message comes back",
-        check::same(&opened, &message),
+        "largest job: the message comes back",
+        opened == message,
     )
 }

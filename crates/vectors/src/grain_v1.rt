@@ -5,6 +5,7 @@ use crate::{examples, tally};
 use bits::turning::turn;
 use grainv1::{keystream, starting};
 use limits::MESSAGE_LIMIT;
+use std::io;
 
 // As printed: eight bytes of key, two more, the nonce, and ten bytes of keystream.
 #[derive(Clone, Copy)]
@@ -58,28 +59,32 @@ fn through_the_call(v: Vector) -> bool {
     let first = turn(bits::number(examples::front(&out, 8)));
     let last = turn(bits::number(&out)) % 0x1_0000;
     let same = first == v.stream0 && last == v.stream1;
-    there == 10 && same && again == 10 && check::same(&back, &[0; 10])
+    there == 10 && same && again == 10 && back == [0; 10]
 }
 
-pub fn published(t: Tally) -> Tally {
+pub fn published(rt: &impl Print, t: Tally) -> io::Result<Tally> {
     let t1 = tally::line(
+        rt,
         t,
-        b"Grain v1, vector 1: keystream on the machine",
+        "Grain v1, vector 1: keystream on the machine",
         on_the_machine(BLANK),
-    );
+    )?;
     let t2 = tally::line(
+        rt,
         t1,
-        b"Grain v1, vector 1: keystream through the call, there and back",
+        "Grain v1, vector 1: keystream through the call, there and back",
         through_the_call(BLANK),
-    );
+    )?;
     let t3 = tally::line(
+        rt,
         t2,
-        b"Grain v1, vector 2: keystream on the machine",
+        "Grain v1, vector 2: keystream on the machine",
         on_the_machine(OTHER),
-    );
+    )?;
     tally::line(
+        rt,
         t3,
-        b"Grain v1, vector 2: keystream through the call, there and back",
+        "Grain v1, vector 2: keystream through the call, there and back",
         through_the_call(OTHER),
     )
 }
@@ -96,37 +101,42 @@ fn answer(key: &[u8], nonce: &[u8], message: usize, out: usize) -> i64 {
     )
 }
 
-pub fn edges(t: Tally) -> Tally {
+pub fn edges(rt: &impl Print, t: Tally) -> io::Result<Tally> {
     let most = MESSAGE_LIMIT;
     let t1 = tally::line(
+        rt,
         t,
-        b"Grain v1: a 9-byte key with a 9-byte nonce gives 1",
+        "Grain v1: a 9-byte key with a 9-byte nonce gives 1",
         answer(&[0; 9], &[0; 9], 0, 0) == -1,
-    );
+    )?;
     let t2 = tally::line(
+        rt,
         t1,
-        b"Grain v1: a 9-byte nonce with a long message gives 2",
+        "Grain v1: a 9-byte nonce with a long message gives 2",
         answer(&[0; 10], &[0; 9], most + 1, 0) == -2,
-    );
+    )?;
     let t3 = tally::sized(
+        rt,
         t2,
-        b"Grain v1: message of ",
+        "Grain v1: message of ",
         most + 1,
-        b" bytes with no room gives 4",
+        " bytes with no room gives 4",
         answer(&[0; 10], &[0; 8], most + 1, 0) == -4,
-    );
+    )?;
     let t4 = tally::sized(
+        rt,
         t3,
-        b"Grain v1: message of ",
+        "Grain v1: message of ",
         most,
-        b" bytes with output one byte short gives 6",
+        " bytes with output one byte short gives 6",
         answer(&[0; 10], &[0; 8], most, most - 1) == -6,
-    );
+    )?;
     tally::sized(
+        rt,
         t4,
-        b"Grain v1: message of ",
+        "Grain v1: message of ",
         most,
-        b" bytes passes, under a key of 10 zero bytes",
+        " bytes passes, under a key of 10 zero bytes",
         answer(&[0; 10], &[0; 8], most, most) == most as i64,
     )
 }

@@ -4,6 +4,7 @@ use crate::tally::Tally;
 use machine::edition::Edition;
 use machine::engine;
 use machine::engine::Engine;
+use std::io;
 
 // The second vector's.
 pub const KEY: [u8; 16] = [
@@ -18,34 +19,34 @@ pub const NONCE: [u8; 12] = [
 fn keystream_is(e: Engine, expected: &[u8; 16]) -> bool {
     let mut now = e;
     let mut same = true;
-    let mut i: usize = 0;
-    while i < 16 {
+    for byte in expected {
         let c = engine::crypt_byte(now, 0, true);
-        if c.byte != expected[i] {
+        if c.byte != *byte {
             same = false;
         }
         now = c.engine;
-        i += 1;
     }
     same
 }
 
-pub fn run(t: Tally) -> Tally {
+pub fn run(rt: &impl Print, t: Tally) -> io::Result<Tally> {
     let zeros = startup::start(Edition::First, &[0u8; 16], &[0u8; 12]);
     let stream1 = [
         0xc8, 0x00, 0xa5, 0x2f, 0x94, 0x8b, 0x89, 0xb8, 0x5c, 0xee, 0x6c, 0xfd, 0x85, 0x71, 0xf9,
         0x0f,
     ];
     let t1 = crate::tally::line(
+        rt,
         t,
-        b"000, vector 1: keystream",
+        "000, vector 1: keystream",
         keystream_is(zeros, &stream1),
-    );
+    )?;
     let t2 = crate::tally::line(
+        rt,
         t1,
-        b"000, vector 1: tag of the empty message",
+        "000, vector 1: tag of the empty message",
         engine::finish(zeros) == 0xaab5_55c0_73e6_7664,
-    );
+    )?;
 
     let second = startup::start(Edition::First, &KEY, &NONCE);
     let stream2 = [
@@ -53,14 +54,16 @@ pub fn run(t: Tally) -> Tally {
         0x7b,
     ];
     let t3 = crate::tally::line(
+        rt,
         t2,
-        b"000, vector 2: keystream",
+        "000, vector 2: keystream",
         keystream_is(second, &stream2),
-    );
+    )?;
     let tag = engine::finish(engine::absorb_byte(second, 0xff));
     crate::tally::line(
+        rt,
         t3,
-        b"000, vector 2: tag of the message FF",
+        "000, vector 2: tag of the message FF",
         tag == 0x782f_4c4a_8907_ba7f,
     )
 }

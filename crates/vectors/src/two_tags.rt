@@ -6,6 +6,7 @@ use crate::tally::Tally;
 use machine::edition::Edition;
 use machine::engine::Engine;
 use preoutput::{Adding, Run, plain};
+use std::io;
 
 // The bits of the longest string here, with the zeros behind its final 1.
 const LONGEST: usize = 96;
@@ -54,22 +55,20 @@ fn next(e: Engine) -> Engine {
 }
 
 // The registers at the positions where two strings differ, added up; where asked, each is shown.
-fn registers(s: &[u8], t: &[u8], show: bool) -> u64 {
+fn registers(rt: &impl Print, s: &[u8], t: &[u8], show: bool) -> io::Result<u64> {
     let mut now = startup::start(Edition::First, &KEY, &NONCE);
     let mut sum: u64 = 0;
-    let mut i: usize = 0;
-    while i < LONGEST {
+    for i in 0..LONGEST {
         if differ(s, t, i) {
             let tagger = now.tagger;
             sum = sum ^ tagger.register;
             if show {
-                tally::word_at(b"register at position ", i, tagger.register);
+                tally::word_at(rt, "register at position ", i, tagger.register)?;
             }
         }
         now = next(now);
-        i += 1;
     }
-    sum
+    Ok(sum)
 }
 
 // The eight bytes of a slice from place n on; where it does not have them, all of it.
@@ -94,41 +93,44 @@ fn tag(ad: &[u8], message: &[u8]) -> u64 {
 const FIRST: [u8; 4] = [0x01, 0xa5, 0x3c, 0x80];
 
 // Against AD A5 3C and message 80 00.
-fn few_positions(t: Tally) -> Tally {
+fn few_positions(rt: &impl Print, t: Tally) -> io::Result<Tally> {
     let first = tag(&[0xa5], &[0x3c]);
     let second = tag(&[0xa5, 0x3c], &[0x80, 0x00]);
-    tally::word(b"tag of AD A5, message 3C: ", first);
-    tally::word(b"tag of AD A5 3C, message 80 00: ", second);
-    let sum = registers(&FIRST, &[0x02, 0xa5, 0x3c, 0x80, 0x00, 0x80], true);
-    tally::word(b"sum of these registers: ", sum);
-    tally::word(b"sum of the two tags: ", first ^ second);
-    tally::line(t, b"the two sums are equal", sum == first ^ second)
+    tally::word(rt, "tag of AD A5, message 3C: ", first)?;
+    tally::word(rt, "tag of AD A5 3C, message 80 00: ", second)?;
+    let sum = registers(rt, &FIRST, &[0x02, 0xa5, 0x3c, 0x80, 0x00, 0x80], true)?;
+    tally::word(rt, "sum of these registers: ", sum)?;
+    tally::word(rt, "sum of the two tags: ", first ^ second)?;
+    tally::line(rt, t, "the two sums are equal", sum == first ^ second)
 }
 
 // Against AD A5 3C and a message that solves the 64 equations.
-fn equal_tags(t: Tally) -> Tally {
+fn equal_tags(rt: &impl Print, t: Tally) -> io::Result<Tally> {
     let message = [0x81, 0x29, 0x44, 0xed, 0xc3, 0x15, 0x7a, 0xd6];
     let string = [
         0x02, 0xa5, 0x3c, 0x81, 0x29, 0x44, 0xed, 0xc3, 0x15, 0x7a, 0xd6, 0x80,
     ];
     let first = tag(&[0xa5], &[0x3c]);
     let second = tag(&[0xa5, 0x3c], &message);
-    let sum = registers(&FIRST, &string, false);
+    let sum = registers(rt, &FIRST, &string, false)?;
     tally::word(
-        b"tag of AD A5 3C, message 81 29 44 ED C3 15 7A D6: ",
+        rt,
+        "tag of AD A5 3C, message 81 29 44 ED C3 15 7A D6: ",
         second,
-    );
+    )?;
     tally::word(
-        b"sum of the registers where its string differs from the first: ",
+        rt,
+        "sum of the registers where its string differs from the first: ",
         sum,
-    );
+    )?;
     tally::line(
+        rt,
         t,
-        b"this sum is zero, and the tags are equal",
+        "this sum is zero, and the tags are equal",
         sum == 0 && first == second,
     )
 }
 
-pub fn run(t: Tally) -> Tally {
-    equal_tags(few_positions(t))
+pub fn run(rt: &impl Print, t: Tally) -> io::Result<Tally> {
+    equal_tags(rt, few_positions(rt, t)?)
 }
