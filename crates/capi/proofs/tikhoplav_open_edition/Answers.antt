@@ -12,5 +12,5 @@ pub returns : goal.returns
 returns c =
     let a = c.args in
     returned _ _ (opened a.edition a.key.now a.nonce.now a.ad.now a.sealed.now a.out.now) _ (to_z-of_z w64 c.signed.result (record { sfits = c.signed.type_inv }) ∙ c.signed.ensures)
-    (named_fits a.edition a.out.now _ (λ e. opened_unknown a.edition a.key.now a.nonce.now a.ad.now a.sealed.now a.out.now e ∙ sym (goal.at.returns c).After-open.«open».ensures.0) (λ e h. open_fits e a.key.now a.nonce.now a.ad.now a.sealed.now a.out.now _ ((goal.at.returns c).After-open.«open».ensures.1.1.0 e h)))
-    (goal.at.returns c).After-open.«open».ensures.0
+    (named_fits a.edition a.out.now _ (λ e. opened_unknown a.edition a.key.now a.nonce.now a.ad.now a.sealed.now a.out.now e ∙ sym c.«open».ensures.opened) (λ e h. open_fits e a.key.now a.nonce.now a.ad.now a.sealed.now a.out.now _ (c.«open».ensures.demand2 e h)))
+    c.«open».ensures.opened

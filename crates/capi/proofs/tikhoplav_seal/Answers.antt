@@ -12,4 +12,4 @@ pub returns : goal.returns
 returns c =
     let a = c.args in
     returned _ _ (sealed a.key.now a.nonce.now a.ad.now a.message.now a.out.now) _ (to_z-of_z w64 c.signed.result (record { sfits = c.signed.type_inv }) ∙ c.signed.ensures)
-    (seal_fits First a.key.now a.nonce.now a.ad.now a.message.now a.out.now _ c.seal.ensures.1.1) c.seal.ensures.0
+    (seal_fits First a.key.now a.nonce.now a.ad.now a.message.now a.out.now _ c.seal.ensures.demand2) c.seal.ensures.sealed

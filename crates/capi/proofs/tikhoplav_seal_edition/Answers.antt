@@ -12,5 +12,5 @@ pub returns : goal.returns
 returns c =
     let a = c.args in
     returned _ _ (sealed a.edition a.key.now a.nonce.now a.ad.now a.message.now a.out.now) _ (to_z-of_z w64 c.signed.result (record { sfits = c.signed.type_inv }) ∙ c.signed.ensures)
-    (named_fits a.edition a.out.now _ (λ e. sealed_unknown a.edition a.key.now a.nonce.now a.ad.now a.message.now a.out.now e ∙ sym c.seal.ensures.0) (λ e h. seal_fits e a.key.now a.nonce.now a.ad.now a.message.now a.out.now _ (c.seal.ensures.1.1 e h)))
-    c.seal.ensures.0
+    (named_fits a.edition a.out.now _ (λ e. sealed_unknown a.edition a.key.now a.nonce.now a.ad.now a.message.now a.out.now e ∙ sym c.seal.ensures.sealed) (λ e h. seal_fits e a.key.now a.nonce.now a.ad.now a.message.now a.out.now _ (c.seal.ensures.demand2 e h)))
+    c.seal.ensures.sealed

@@ -12,4 +12,4 @@ pub returns : goal.returns
 returns c =
     let a = c.args in
     returned _ _ (made First a.key.now a.nonce.now a.identifier a.message.now a.out.now) _ (to_z-of_z w64 c.signed.result (record { sfits = c.signed.type_inv }) ∙ c.signed.ensures)
-    (make_fits First a.key.now a.nonce.now a.identifier a.message.now a.out.now _ c.make.ensures.1.1) c.make.ensures.0
+    (make_fits First a.key.now a.nonce.now a.identifier a.message.now a.out.now _ c.make.ensures.demand2) c.make.ensures.made

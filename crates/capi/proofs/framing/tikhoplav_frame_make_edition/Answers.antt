@@ -12,5 +12,5 @@ pub returns : goal.returns
 returns c =
     let a = c.args in
     returned _ _ (made a.edition a.key.now a.nonce.now a.identifier a.message.now a.out.now) _ (to_z-of_z w64 c.signed.result (record { sfits = c.signed.type_inv }) ∙ c.signed.ensures)
-    (named_fits a.edition a.out.now _ (λ e. made_unknown a.edition a.key.now a.nonce.now a.identifier a.message.now a.out.now e ∙ sym c.make.ensures.0) (λ e h. make_fits e a.key.now a.nonce.now a.identifier a.message.now a.out.now _ (c.make.ensures.1.1 e h)))
-    c.make.ensures.0
+    (named_fits a.edition a.out.now _ (λ e. made_unknown a.edition a.key.now a.nonce.now a.identifier a.message.now a.out.now e ∙ sym c.make.ensures.made) (λ e h. make_fits e a.key.now a.nonce.now a.identifier a.message.now a.out.now _ (c.make.ensures.demand2 e h)))
+    c.make.ensures.made

@@ -12,4 +12,4 @@ pub returns : goal.returns
 returns c =
     let a = c.args in
     returned _ _ (read First a.key.now a.nonce.now a.identifier a.code a.field.now a.out.now) _ (to_z-of_z w64 c.signed.result (record { sfits = c.signed.type_inv }) ∙ c.signed.ensures)
-    (read_fits First a.key.now a.nonce.now a.identifier a.code a.field.now a.out.now _ c.read.ensures.1.1.demand2) c.read.ensures.0
+    (read_fits First a.key.now a.nonce.now a.identifier a.code a.field.now a.out.now _ c.read.ensures.promises.demand2) c.read.ensures.read

@@ -12,5 +12,5 @@ pub returns : goal.returns
 returns c =
     let a = c.args in
     returned _ _ (read a.edition a.key.now a.nonce.now a.identifier a.code a.field.now a.out.now) _ (to_z-of_z w64 c.signed.result (record { sfits = c.signed.type_inv }) ∙ c.signed.ensures)
-    (named_fits a.edition a.out.now _ (λ e. read_unknown a.edition a.key.now a.nonce.now a.identifier a.code a.field.now a.out.now e ∙ sym c.read.ensures.0) (λ e h. read_fits e a.key.now a.nonce.now a.identifier a.code a.field.now a.out.now _ (c.read.ensures.1.1 e h).demand2))
-    c.read.ensures.0
+    (named_fits a.edition a.out.now _ (λ e. read_unknown a.edition a.key.now a.nonce.now a.identifier a.code a.field.now a.out.now e ∙ sym c.read.ensures.read) (λ e h. read_fits e a.key.now a.nonce.now a.identifier a.code a.field.now a.out.now _ (c.read.ensures.promises e h).demand2))
+    c.read.ensures.read

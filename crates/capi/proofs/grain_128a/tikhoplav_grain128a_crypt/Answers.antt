@@ -11,4 +11,4 @@ pub returns : goal.returns
 returns c =
     let a = c.args in
     returned _ _ (crypted a.key.now a.nonce.now a.message.now a.out.now) _ (to_z-of_z w64 c.signed.result (record { sfits = c.signed.type_inv }) ∙ c.signed.ensures)
-    (crypt_fits a.key.now a.nonce.now a.message.now a.out.now _ c.crypt.ensures.1.1) c.crypt.ensures.0
+    (crypt_fits a.key.now a.nonce.now a.message.now a.out.now _ c.crypt.ensures.crypting) c.crypt.ensures.crypted

@@ -11,4 +11,4 @@ pub returns : goal.returns
 returns c =
     let a = c.args in
     returned _ _ (opened a.tag_bits a.key.now a.nonce.now a.sealed.now a.out.now) _ (to_z-of_z w64 c.signed.result (record { sfits = c.signed.type_inv }) ∙ c.signed.ensures)
-    (tagged_open_fits a.tag_bits a.key.now a.nonce.now a.sealed.now a.out.now _ (goal.at.returns c).After-open.«open».ensures.1.1.0) (goal.at.returns c).After-open.«open».ensures.0
+    (tagged_open_fits a.tag_bits a.key.now a.nonce.now a.sealed.now a.out.now _ c.«open».ensures.demand2) c.«open».ensures.opened

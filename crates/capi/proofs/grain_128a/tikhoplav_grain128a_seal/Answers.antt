@@ -11,4 +11,4 @@ pub returns : goal.returns
 returns c =
     let a = c.args in
     returned _ _ (sealed a.tag_bits a.key.now a.nonce.now a.message.now a.out.now) _ (to_z-of_z w64 c.signed.result (record { sfits = c.signed.type_inv }) ∙ c.signed.ensures)
-    (tagged_seal_fits a.tag_bits a.key.now a.nonce.now a.message.now a.out.now _ c.seal.ensures.1.1) c.seal.ensures.0
+    (tagged_seal_fits a.tag_bits a.key.now a.nonce.now a.message.now a.out.now _ c.seal.ensures.demand2) c.seal.ensures.sealed

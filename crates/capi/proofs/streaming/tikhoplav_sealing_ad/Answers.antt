@@ -7,4 +7,4 @@ use Rattle.capi.proofs.streaming.tikhoplav_sealing_ad.Goals as goal
 
 pub returns : goal.returns
 returns c =
-    returned _ _ _ _ _ (to_z-of_z w64 c.signed.result (record { sfits = c.signed.type_inv }) ∙ c.signed.ensures) c.ad.ensures.1.1 c.ad.ensures.0
+    returned _ _ _ _ _ (to_z-of_z w64 c.signed.result (record { sfits = c.signed.type_inv }) ∙ c.signed.ensures) c.ad.ensures.fits c.ad.ensures.called
