@@ -121,7 +121,7 @@ try-calls:
 	@$(CXX11) -fsyntax-only include/tikhoplav.h
 	@echo '== what the archive needs from elsewhere'
 	@needed=$$(nm --undefined-only --format=posix build/libtikhoplav.a | sed -n 's/ U.*//p') && echo $$needed && \
-	  [ -z "$$(echo "$$needed" | grep -vx 'memcpy\|memset')" ] || { echo 'the header says memcpy and memset' >&2; exit 1; }
+	  [ "$$(echo $$needed)" = 'memcpy memset' ] || { echo 'the header says memcpy and memset' >&2; exit 1; }
 	@echo '== the stack that the calls take'
 	@$(OUT)/stack
 	@echo '== the calls from C, with sanitizers'
