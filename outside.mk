@@ -44,12 +44,12 @@ have-rustc:
 $(OUT):
 	mkdir -p $@
 
-# The archive depends on the files that are proved and on their folders, so that a removed file counts too.
+# The archive depends on the files that are proved and on their folders, so that a removed file counts too. It is for every x86-64 processor.
 VERIFIED := bits key lengths refusals tagged untagged length_codes captures generators preoutput strokes authenticator machine startup strings payload checks frame_checks mode_checks limits grain128aead grain128a grainv1 named_edition frames named_frames stream_checks stream_state streams signals capi capi_c
 PROVED := $(shell find $(foreach crate,$(VERIFIED),$(wildcard $(addprefix crates/$(crate)/,src specs proofs))))
 
 build/libtikhoplav.a: crates.txt $(PROVED) | $(OUT)
-	cd crates/capi_c && rt lib
+	cd crates/capi_c && rt lib --cpu x86-64
 	cp crates/capi_c/out/libcapi_c.a $@
 
 # rt builds a program to run it. What it writes is compared.
@@ -78,7 +78,7 @@ $(OUT)/harness: tests/harness/main.rs $(wildcard tests/harness/*.rs tests/harnes
 
 # What the bench times beside the calls.
 $(OUT)/libprobes.a: crates.txt $(PROVED) $(shell find $(wildcard $(addprefix crates/probes/,src specs proofs))) | $(OUT)
-	cd crates/probes && rt lib
+	cd crates/probes && rt lib --cpu x86-64
 	cp crates/probes/out/libprobes.a $@
 
 $(OUT)/bench: bench/main.rs $(wildcard bench/*.rs) $(SHARED) $(MODEL) $(OUT)/libprobes.a
@@ -121,7 +121,7 @@ try-calls:
 	@$(CXX11) -fsyntax-only include/tikhoplav.h
 	@echo '== what the archive needs from elsewhere'
 	@needed=$$(nm --undefined-only --format=posix build/libtikhoplav.a | sed -n 's/ U.*//p') && echo $$needed && \
-	  [ "$$(echo $$needed)" = 'memcpy memset' ] || { echo 'the header says memcpy and memset' >&2; exit 1; }
+	  [ -z "$$(echo "$$needed" | grep -vx 'memcpy\|memset')" ] || { echo 'the header says memcpy and memset' >&2; exit 1; }
 	@echo '== the stack that the calls take'
 	@$(OUT)/stack
 	@echo '== the calls from C, with sanitizers'

@@ -1,5 +1,6 @@
 // The authenticator: the accumulator and its register, on words.
 #![tactic(auto)]
+
 mod products;
 
 ghost use Rattle.std.specs.Prelude.{◌≡◌};

@@ -1,5 +1,6 @@
 // Bits, bytes and words: the layer below the registers. A register's word has its first place in its top bit.
 #![tactic(auto)]
+
 mod exchanging;
 pub mod parting;
 pub mod turning;

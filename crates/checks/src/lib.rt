@@ -1,5 +1,6 @@
 // The rows before the tag's of sealing and opening, tried in their order.
 #![tactic(auto)]
+
 ghost use Rattle.std.specs.Prelude.{◌≡◌, false};
 ghost use Rattle.refusals.specs.Refusals as refusals;
 ghost use Rattle.checks.specs.Order.{before_tag};

@@ -1,5 +1,6 @@
 // The rows of making and of reading a frame, tried in their order.
 #![tactic(auto)]
+
 pub mod layout;
 
 ghost use Rattle.std.specs.Prelude.{◌≡◌, false, length};

@@ -1,5 +1,6 @@
 // Sealed CAN FD frames. Where no edition is named, it is the first.
 #![tactic(auto)]
+
 pub mod by_edition;
 
 ghost use Rattle.std.specs.Prelude.{◌≡◌};

@@ -1,5 +1,6 @@
 // Grain-128a, with authentication and without, over whole byte strings.
 #![tactic(auto)]
+
 mod beginning;
 pub mod starting;
 mod tag;

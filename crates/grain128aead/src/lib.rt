@@ -1,5 +1,6 @@
 // Grain-128AEAD: sealing and opening of whole byte strings. Where no edition is named, it is the first.
 #![tactic(auto)]
+
 pub mod by_edition;
 pub mod sizes;
 

@@ -1,5 +1,6 @@
 // What is asked of a key beside its size.
 #![tactic(auto)]
+
 ghost use Rattle.std.specs.Prelude.{◌≡◌};
 ghost use Rattle.key.specs.BlankKey.{is_blank};
 

@@ -1,5 +1,6 @@
 // CAN FD's length codes: the length that a code means, and the smallest code that holds a length.
 #![tactic(auto)]
+
 pub mod calls;
 
 ghost use Rattle.std.specs.Prelude.{◌≡◌};

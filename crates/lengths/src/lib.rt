@@ -1,5 +1,6 @@
 // The coded length of the AD: its definition, its laws and its size. The code that hands it to the machine is payload's.
 #![tactic(auto)]
+
 ghost use Rattle.std.specs.Prelude.{◌≡◌, length};
 ghost use Rattle.lengths.specs.CodedLength.{coded_length};
 

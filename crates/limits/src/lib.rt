@@ -1,3 +1,4 @@
 // The limit on messages of every cipher, in bytes.
 #![tactic(auto)]
+
 pub const MESSAGE_LIMIT: usize = 61440;

@@ -1,5 +1,6 @@
 // The rows before the tag's of Grain-128a's calls, tried in their order.
 #![tactic(auto)]
+
 ghost use Rattle.std.specs.Prelude.{◌≡◌, false};
 ghost use Rattle.refusals.specs.Refusals.{among};
 ghost use Rattle.refusals.specs.Refusals as refusals;

@@ -1,5 +1,6 @@
 // The pre-output generator, the LFSR and the NFSR, on words, with its plain engine.
 #![tactic(auto)]
+
 pub mod added;
 pub mod plain;
 mod taps;

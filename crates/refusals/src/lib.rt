@@ -1,5 +1,6 @@
 // Answers and refusals, and the signed number that an answer is in C.
 #![tactic(auto)]
+
 ghost use Rattle.std.specs.Prelude.{◌≡◌};
 ghost use Rattle.refusals.specs.Refusals as refusals;
 ghost use Rattle.refusals.specs.Signed.{signed_of, capped};

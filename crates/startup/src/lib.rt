@@ -1,5 +1,6 @@
 // Start-up of both editions: the loading, the clocks that warm the registers up, and those that fill accumulator and register.
 #![tactic(auto)]
+
 pub mod editions;
 pub mod feeding;
 mod filling;

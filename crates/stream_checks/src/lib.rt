@@ -1,5 +1,6 @@
 // The kinds and the counts of a stream, and the rows of its calls, tried in their order.
 #![tactic(auto)]
+
 pub mod counts;
 
 ghost use Rattle.std.specs.Prelude.{◌≡◌, false};

@@ -1,5 +1,6 @@
 // The 64 bytes of a stream: how they are read and written, and the clocks so far.
 #![tactic(auto)]
+
 mod reading;
 mod writing;
 

@@ -1,5 +1,6 @@
 // The calls on streams: payloads that arrive in pieces. A call reads the stream from the state, judges, goes on, and writes it back.
 #![tactic(auto)]
+
 mod going;
 
 ghost use Rattle.std.specs.Prelude.{◌≡◌, []};

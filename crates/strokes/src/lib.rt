@@ -1,5 +1,6 @@
 // The pre-output generator's engine of strokes: 32 clocks at once, and those that are left.
 #![tactic(auto)]
+
 pub mod streams;
 mod stroke;
 mod windows;

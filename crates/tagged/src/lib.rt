@@ -1,5 +1,6 @@
 // The two parts of a sealed input, whose tag has any number of bytes.
 #![tactic(auto)]
+
 ghost use Rattle.std.specs.Prelude.{◌≡◌};
 ghost use Rattle.tagged.specs.Payload as payload;
 

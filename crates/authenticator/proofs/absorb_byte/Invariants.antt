@@ -8,7 +8,7 @@ use Rattle.authenticator.specs.Words.{authenticator_of}
 use Rattle.authenticator.proofs.absorb_byte.Given as goal
 
 abbrev pub invariant-loop-left : goal.invariant-loop-left
-invariant-loop-left l =     (l.left ≤ 8) × (absorb_all (authenticator_of l.now) (word l.left l.m) (places (word l.left l.new)) ≡ absorb_all (authenticator_of l.initial.now) (word 8 l.m) (places (word 8 l.new)))
+invariant-loop-left l = (l.left ≤ 8) × (absorb_all (authenticator_of l.now) (word l.left l.m) (places (word l.left l.new)) ≡ absorb_all (authenticator_of l.initial.now) (word 8 l.m) (places (word 8 l.new)))
 
 abbrev pub decreases-loop-left : goal.decreases-loop-left
 decreases-loop-left l = l.left

@@ -48,5 +48,5 @@ pub returns-in-Passed : goal.returns-in-Passed
 returns-in-Passed c =
     let a = c.args in
     let k = called a.key.now a.nonce.now a.message.now a.out.now
-        (crypt_passed (checked (goal.at.returns-in-Passed c).After-judge_unauthenticated) c.in-Passed.is c.warm-warmed.ensures c.add_keystream.ensures) in
+    (crypt_passed (checked (goal.at.returns-in-Passed c).After-judge_unauthenticated) c.in-Passed.is c.warm-warmed.ensures c.add_keystream.ensures) in
     record { crypted = k.0; demand1 = k.1.0; crypting = k.1.1 }

@@ -97,9 +97,9 @@ returns-then-finish-number c =
     let a = c.args in
     let size = c.size-size.ensures in
     let k = called a.tag_bits a.key.now a.nonce.now a.input.now a.out.now (is-bytes (goal.at.returns-then-finish-number c).After-judge_authenticated)
-        (rw size
-        (open_passed (checked (goal.at.returns-then-finish-number c).After-judge_authenticated) c.in-Passed.is (compared (goal.at.returns-then-finish-number c).After-number) c.if-finish-number.true
-        (rw size at (rw c.ciphertext_part-ciphertext.ensures at c.add_keystream.ensures)))) in
+    (rw size
+    (open_passed (checked (goal.at.returns-then-finish-number c).After-judge_authenticated) c.in-Passed.is (compared (goal.at.returns-then-finish-number c).After-number) c.if-finish-number.true
+    (rw size at (rw c.ciphertext_part-ciphertext.ensures at c.add_keystream.ensures)))) in
     record { opened = k.0; demand1 = k.1.0; demand2 = k.1.1.0; demand3 = k.1.1.1.0; past = k.1.1.1.1 }
 
 pub returns-else-finish-number : goal.returns-else-finish-number

@@ -70,7 +70,7 @@ returns-in-Passed c =
     let a = c.args in
     let size = c.size-size.ensures in
     let k = called a.tag_bits a.key.now a.nonce.now a.message.now a.out.now
-        (rw size
-        (seal_passed (checked (goal.at.returns-in-Passed c).After-judge_authenticated) c.in-Passed.is (record { cuts = c.begin-begun.ensures }) c.encipher_all-done.ensures c.finish.ensures
-        (rw size at (word-written _ (length a.message.now) c.size-size.result c.finish.result (omega (arith, c.encipher_all-done.auto, (legal (goal.at.returns-in-Passed c).After-judge_authenticated c.in-Passed.is).1, size)) c.spell.ensures)))) in
+    (rw size
+    (seal_passed (checked (goal.at.returns-in-Passed c).After-judge_authenticated) c.in-Passed.is (record { cuts = c.begin-begun.ensures }) c.encipher_all-done.ensures c.finish.ensures
+    (rw size at (word-written _ (length a.message.now) c.size-size.result c.finish.result (omega (arith, c.encipher_all-done.auto, (legal (goal.at.returns-in-Passed c).After-judge_authenticated c.in-Passed.is).1, size)) c.spell.ensures)))) in
     record { sealed = k.0; demand1 = k.1.0; demand2 = k.1.1 }

@@ -1,7 +1,7 @@
 -- `length_codes::length_code` meets its contract.
 use mathlib.Core.Path.{◌≡◌}
 use Prim.Native.Nat.{◌+◌, ◌-◌, ◌≤◌}
-use lib.ListN.{length, drop}
+use lib.ListN.{drop}
 use Rattle.length_codes.specs.LengthCodes.{coded_lengths, first_holding, length_code}
 use Rattle.length_codes.proofs.length_code.Given as goal
 

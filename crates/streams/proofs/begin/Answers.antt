@@ -47,8 +47,8 @@ pub returns-in-Passed : goal.returns-in-Passed
 returns-in-Passed c =
     let a = c.args in
     let k = answered _ _
-        (put_step _ a.state.now (started (goal.at.returns-in-Passed c).After-judge_begin c.in-Passed.is).sized
-        (starts a.kind a.key.now a.nonce.now a.announced c.start-engine.result c.named.ensures c.start-engine.ensures c.number.ensures) c.put.ensures.counted c.put.ensures.stored refl
-        ∙ begin_passed a.kind a.edition a.key.now a.nonce.now a.announced a.state.now (sym (judged (goal.at.returns-in-Passed c).After-judge_begin) ∙ c.in-Passed.is))
-        c.put.ensures.fits in
+    (put_step _ a.state.now (started (goal.at.returns-in-Passed c).After-judge_begin c.in-Passed.is).sized
+    (starts a.kind a.key.now a.nonce.now a.announced c.start-engine.result c.named.ensures c.start-engine.ensures c.number.ensures) c.put.ensures.counted c.put.ensures.stored refl
+    ∙ begin_passed a.kind a.edition a.key.now a.nonce.now a.announced a.state.now (sym (judged (goal.at.returns-in-Passed c).After-judge_begin) ∙ c.in-Passed.is))
+    c.put.ensures.fits in
     record { called = k.0; demand1 = k.1.0; fits = k.1.1 }

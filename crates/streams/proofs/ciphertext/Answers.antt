@@ -41,7 +41,7 @@ pub returns-in-Passed : goal.returns-in-Passed
 returns-in-Passed c =
     let a = c.args in
     let k = answered _ _
-        (put_step _ a.state.now (state-sized (holding (goal.at.returns-in-Passed c).In-Sound)) (deciphered c.in-Sound.x a.piece.now c.decipher_all-engine.result c.more_message-counts.result c.decipher_all-engine.ensures c.more_message-counts.ensures) c.put.ensures.counted c.put.ensures.stored refl
-        ∙ called_passed (Ciphertext a.piece.now) tt (holding (goal.at.returns-in-Passed c).In-Sound) (sym (judged (goal.at.returns-in-Passed c).After-judge) ∙ c.in-Passed.is) refl)
-        c.put.ensures.fits in
+    (put_step _ a.state.now (state-sized (holding (goal.at.returns-in-Passed c).In-Sound)) (deciphered c.in-Sound.x a.piece.now c.decipher_all-engine.result c.more_message-counts.result c.decipher_all-engine.ensures c.more_message-counts.ensures) c.put.ensures.counted c.put.ensures.stored refl
+    ∙ called_passed (Ciphertext a.piece.now) tt (holding (goal.at.returns-in-Passed c).In-Sound) (sym (judged (goal.at.returns-in-Passed c).After-judge) ∙ c.in-Passed.is) refl)
+    c.put.ensures.fits in
     record { called = k.0; demand1 = k.1.0; fits = k.1.1 }

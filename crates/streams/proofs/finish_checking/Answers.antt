@@ -62,9 +62,9 @@ pub returns-then-finish-number : goal.returns-then-finish-number
 returns-then-finish-number c =
     let a = c.args in
     let k = answered _ _
-        (put_step c.ended.result a.state.now (state-sized (holding (goal.at.returns-then-finish-number c).In-Sound)) c.ended.ensures c.put.ensures.counted c.put.ensures.stored refl
-        ∙ called_passed (FinishChecking a.tag.now) tt (holding (goal.at.returns-then-finish-number c).In-Sound) (passed (goal.at.returns-then-finish-number c).After-judge c.in-Passed.is) ((compared (goal.at.returns-then-finish-number c).After-number (passed (goal.at.returns-then-finish-number c).After-judge c.in-Passed.is)).0 c.if-finish-number.true))
-        c.put.ensures.fits in
+    (put_step c.ended.result a.state.now (state-sized (holding (goal.at.returns-then-finish-number c).In-Sound)) c.ended.ensures c.put.ensures.counted c.put.ensures.stored refl
+    ∙ called_passed (FinishChecking a.tag.now) tt (holding (goal.at.returns-then-finish-number c).In-Sound) (passed (goal.at.returns-then-finish-number c).After-judge c.in-Passed.is) ((compared (goal.at.returns-then-finish-number c).After-number (passed (goal.at.returns-then-finish-number c).After-judge c.in-Passed.is)).0 c.if-finish-number.true))
+    c.put.ensures.fits in
     record { called = k.0; demand1 = k.1.0; fits = k.1.1 }
 
 pub returns-else-finish-number : goal.returns-else-finish-number

@@ -52,8 +52,8 @@ pub returns-in-Passed : goal.returns-in-Passed
 returns-in-Passed c =
     let a = c.args in
     let k = answered _ _
-        (put_step c.ended.result a.state.now (state-sized (holding (goal.at.returns-in-Passed c).In-Sound)) c.ended.ensures c.put.ensures.counted c.put.ensures.stored
-        (tag-output c.in-Sound.x c.finish.result c.finish.ensures a.out.now (room (goal.at.returns-in-Passed c).After-judge c.in-Passed.is) c.spell.ensures)
-        ∙ called_passed (FinishSealing a.out.now) tt (holding (goal.at.returns-in-Passed c).In-Sound) (sym (judged (goal.at.returns-in-Passed c).After-judge) ∙ c.in-Passed.is) refl)
-        c.put.ensures.fits in
+    (put_step c.ended.result a.state.now (state-sized (holding (goal.at.returns-in-Passed c).In-Sound)) c.ended.ensures c.put.ensures.counted c.put.ensures.stored
+    (tag-output c.in-Sound.x c.finish.result c.finish.ensures a.out.now (room (goal.at.returns-in-Passed c).After-judge c.in-Passed.is) c.spell.ensures)
+    ∙ called_passed (FinishSealing a.out.now) tt (holding (goal.at.returns-in-Passed c).In-Sound) (sym (judged (goal.at.returns-in-Passed c).After-judge) ∙ c.in-Passed.is) refl)
+    c.put.ensures.fits in
     record { called = k.0; demand1 = k.1.0; fits = k.1.1 }

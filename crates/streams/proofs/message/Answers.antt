@@ -46,8 +46,8 @@ returns-in-Passed c =
     let passed = sym (judged (goal.at.returns-in-Passed c).After-judge) ∙ c.in-Passed.is in
     let room = ltb-false (length a.out.now) (length a.piece.now) (passed_clear _ _ _ _ passed).room in
     let k = answered _ _
-        (put_step _ a.state.now (state-sized (holding (goal.at.returns-in-Passed c).In-Sound)) (enciphered c.in-Sound.x a.piece.now c.encipher_all-engine.result c.more_message-counts.result room c.encipher_all-engine.ensures c.more_message-counts.ensures) c.put.ensures.counted c.put.ensures.stored
-        (enciphered-output c.in-Sound.x a.piece.now c.encipher_all-engine.result c.more_message-counts.result room c.encipher_all-engine.ensures)
-        ∙ called_passed (Message a.piece.now a.out.now) tt (holding (goal.at.returns-in-Passed c).In-Sound) passed refl)
-        c.put.ensures.fits in
+    (put_step _ a.state.now (state-sized (holding (goal.at.returns-in-Passed c).In-Sound)) (enciphered c.in-Sound.x a.piece.now c.encipher_all-engine.result c.more_message-counts.result room c.encipher_all-engine.ensures c.more_message-counts.ensures) c.put.ensures.counted c.put.ensures.stored
+    (enciphered-output c.in-Sound.x a.piece.now c.encipher_all-engine.result c.more_message-counts.result room c.encipher_all-engine.ensures)
+    ∙ called_passed (Message a.piece.now a.out.now) tt (holding (goal.at.returns-in-Passed c).In-Sound) passed refl)
+    c.put.ensures.fits in
     record { called = k.0; demand1 = k.1.0; fits = k.1.1 }

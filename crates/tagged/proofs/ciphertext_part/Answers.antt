@@ -13,6 +13,6 @@ returns c =
     let s = c.args.input.now in
     let size = c.args.size in
     elim c.if-n-size.branch [
-        then-n-size w ↦ ap (λ (end : ℕ). take end s) w.end-is ∙ take_all (length s) s (omega arith) ∙ sym (ciphertext_part-short size s (omega (arith, w.if-n-size.true)))
+      | then-n-size w ↦ ap (λ (end : ℕ). take end s) w.end-is ∙ take_all (length s) s (omega arith) ∙ sym (ciphertext_part-short size s (omega (arith, w.if-n-size.true)))
       | else-n-size w ↦ ap (λ (end : ℕ). take end s) w.end-is ∙ sym (ciphertext_part_is size s (omega (arith, w.if-n-size.false)))
     ]

@@ -4,7 +4,7 @@ use mathlib.Core.Bool.{not}
 use Prim.Native.Nat.{ℕ, ◌+◌}
 use native.Mathlib.Omega.{arith}
 use lib.ListN.{drop}
-use Rattle.frame_checks.specs.Layout.{overhead, announced, zero_bytes}
+use Rattle.frame_checks.specs.Layout.{overhead, zero_bytes}
 use Rattle.frame_checks.proofs.ZeroBytes.{zero_on, zero-not, zero_end}
 use Rattle.frame_checks.proofs.layout.filler_not_zero.Goals as goal
 

@@ -84,6 +84,6 @@ pub returns-in-Passed : goal.returns-in-Passed
 returns-in-Passed c =
     let a = c.args in
     let k = called a.edition a.key.now a.nonce.now a.identifier a.message.now a.out.now
-        (make_passed (checked (goal.at.returns-in-Passed c).After-judge_making) c.in-Passed.is a.edition c.seal.new.out c.spell.new.out c.frame_ad-ad.result c.field_size-size.result
-        (c.frame_ad-ad.ensures ∙ ap (frame_ad a.identifier) c.field_code.ensures) c.field_size-size.ensures c.seal.ensures.sealed c.spell.ensures) in
+    (make_passed (checked (goal.at.returns-in-Passed c).After-judge_making) c.in-Passed.is a.edition c.seal.new.out c.spell.new.out c.frame_ad-ad.result c.field_size-size.result
+    (c.frame_ad-ad.ensures ∙ ap (frame_ad a.identifier) c.field_code.ensures) c.field_size-size.ensures c.seal.ensures.sealed c.spell.ensures) in
     record { made = k.0; demand1 = k.1.0; demand2 = k.1.1 }

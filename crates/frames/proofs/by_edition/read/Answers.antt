@@ -51,5 +51,5 @@ pub returns-in-Passed : goal.returns-in-Passed
 returns-in-Passed c =
     let a = c.args in
     let k = called a.edition a.key.now a.nonce.now a.identifier a.code a.field.now a.out.now (is-bytes (goal.at.returns-in-Passed c).After-judge_reading)
-        (read_passed (checked (goal.at.returns-in-Passed c).After-judge_reading) c.in-Passed.is a.edition c.frame_ad-ad.result c.announced.result c.frame_ad-ad.ensures c.announced.ensures c.«open».ensures.opened) in
+    (read_passed (checked (goal.at.returns-in-Passed c).After-judge_reading) c.in-Passed.is a.edition c.frame_ad-ad.result c.announced.result c.frame_ad-ad.ensures c.announced.ensures c.«open».ensures.opened) in
     record { read = k.0; demand1 = k.1.0; promises = k.1.1 }

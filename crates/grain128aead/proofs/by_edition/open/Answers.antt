@@ -91,7 +91,7 @@ pub returns-then-finish-number : goal.returns-then-finish-number
 returns-then-finish-number c =
     let a = c.args in
     let k = called a.edition a.key.now a.nonce.now a.ad.now a.input.now a.out.now (is-bytes (goal.at.returns-then-finish-number c).After-judge)
-        (open_passed (checked (goal.at.returns-then-finish-number c).After-judge) c.in-Passed.is (compared (goal.at.returns-then-finish-number c).After-number) c.if-finish-number.true (rw c.ciphertext_part-ciphertext.ensures at c.add_keystream.ensures)) in
+    (open_passed (checked (goal.at.returns-then-finish-number c).After-judge) c.in-Passed.is (compared (goal.at.returns-then-finish-number c).After-number) c.if-finish-number.true (rw c.ciphertext_part-ciphertext.ensures at c.add_keystream.ensures)) in
     record { opened = k.0; demand1 = k.1.0; demand2 = k.1.1.0; demand3 = k.1.1.1.0; substitution = k.1.1.1.1 }
 
 pub returns-else-finish-number : goal.returns-else-finish-number

@@ -54,13 +54,13 @@ pub returns-in-Failed : goal.returns-in-Failed
 returns-in-Failed c =
     let a = c.args in
     let k = called a.edition a.key.now a.nonce.now a.ad.now a.message.now a.out.now
-        (seal_failed (checked (goal.at.returns-in-Failed c).After-judge) a.edition c.in-Failed.is) in
+    (seal_failed (checked (goal.at.returns-in-Failed c).After-judge) a.edition c.in-Failed.is) in
     record { sealed = k.0; demand1 = k.1.0; demand2 = k.1.1 }
 
 pub returns-in-Passed : goal.returns-in-Passed
 returns-in-Passed c =
     let a = c.args in
     let k = called a.edition a.key.now a.nonce.now a.ad.now a.message.now a.out.now
-        (seal_passed (checked (goal.at.returns-in-Passed c).After-judge) c.in-Passed.is a.edition c.begin-begun.result c.encipher_all-done.result c.finish.result
-        c.begin-begun.ensures c.encipher_all-done.ensures c.finish.ensures (word-written _ (length a.message.now) 8 c.finish.result (omega (arith, c.encipher_all-done.auto, seal_room (checked (goal.at.returns-in-Passed c).After-judge) c.in-Passed.is)) c.spell.ensures)) in
+    (seal_passed (checked (goal.at.returns-in-Passed c).After-judge) c.in-Passed.is a.edition c.begin-begun.result c.encipher_all-done.result c.finish.result
+    c.begin-begun.ensures c.encipher_all-done.ensures c.finish.ensures (word-written _ (length a.message.now) 8 c.finish.result (omega (arith, c.encipher_all-done.auto, seal_room (checked (goal.at.returns-in-Passed c).After-judge) c.in-Passed.is)) c.spell.ensures)) in
     record { sealed = k.0; demand1 = k.1.0; demand2 = k.1.1 }

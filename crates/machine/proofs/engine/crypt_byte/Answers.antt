@@ -24,7 +24,7 @@ returns c =
           c.after.ensures
           ∙ ap (run (state_of a.e))
           (elim c.if-sealing.branch [
-              then-sealing w ↦ taken 8 a.sealing true a.x _ _ w.if-sealing.true w.m-is
+            | then-sealing w ↦ taken 8 a.sealing true a.x _ _ w.if-sealing.true w.m-is
             | else-sealing w ↦ taken 8 a.sealing false a.x _ _ w.if-sealing.false w.m-is
           ]);
     }

@@ -22,7 +22,7 @@ returns c =
           c.after_word.ensures
           ∙ ap (run (state_of a.e))
           (elim c.if-sealing.branch [
-              then-sealing w ↦ taken 32 a.sealing true a.x _ _ w.if-sealing.true w.m-is
+            | then-sealing w ↦ taken 32 a.sealing true a.x _ _ w.if-sealing.true w.m-is
             | else-sealing w ↦ taken 32 a.sealing false a.x _ _ w.if-sealing.false w.m-is
           ]);
     }

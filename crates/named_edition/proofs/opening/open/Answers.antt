@@ -45,14 +45,14 @@ pub returns-then-not-known : goal.returns-then-not-known
 returns-then-not-known c =
     let a = c.args in
     let k = called a.edition a.key.now a.nonce.now a.ad.now a.input.now a.out.now (is-bytes (goal.at.returns-then-not-known c).After-known)
-        (opened_unknown a.edition a.key.now a.nonce.now a.ad.now a.input.now a.out.now (sym c.known.ensures ∙ c.if-not-known.true)) in
+    (opened_unknown a.edition a.key.now a.nonce.now a.ad.now a.input.now a.out.now (sym c.known.ensures ∙ c.if-not-known.true)) in
     record { opened = k.0; demand1 = k.1.0; demand2 = k.1.1.0; demand3 = k.1.1.1.0; substitution = k.1.1.1.1 }
 
 pub returns : goal.returns
 returns c =
     let a = c.args in
     let k = called a.edition a.key.now a.nonce.now a.ad.now a.input.now a.out.now (is-bytes (goal.at.returns c).After-known)
-        (c.«open».ensures.opened
-        ∙ ap (λ (v : Edition). calls.opened v a.key.now a.nonce.now a.ad.now a.input.now a.out.now) c.named.ensures
-        ∙ opened-known a.edition a.key.now a.nonce.now a.ad.now a.input.now a.out.now (sym c.known.ensures ∙ c.if-not-known.false)) in
+    (c.«open».ensures.opened
+    ∙ ap (λ (v : Edition). calls.opened v a.key.now a.nonce.now a.ad.now a.input.now a.out.now) c.named.ensures
+    ∙ opened-known a.edition a.key.now a.nonce.now a.ad.now a.input.now a.out.now (sym c.known.ensures ∙ c.if-not-known.false)) in
     record { opened = k.0; demand1 = k.1.0; demand2 = k.1.1.0; demand3 = k.1.1.1.0; substitution = k.1.1.1.1 }

@@ -31,14 +31,14 @@ pub returns-then-not-known : goal.returns-then-not-known
 returns-then-not-known c =
     let a = c.args in
     let k = called a.edition a.key.now a.nonce.now a.ad.now a.message.now a.out.now
-        (sealed_unknown a.edition a.key.now a.nonce.now a.ad.now a.message.now a.out.now (sym c.known.ensures ∙ c.if-not-known.true)) in
+    (sealed_unknown a.edition a.key.now a.nonce.now a.ad.now a.message.now a.out.now (sym c.known.ensures ∙ c.if-not-known.true)) in
     record { sealed = k.0; demand1 = k.1.0; demand2 = k.1.1 }
 
 pub returns : goal.returns
 returns c =
     let a = c.args in
     let k = called a.edition a.key.now a.nonce.now a.ad.now a.message.now a.out.now
-        (c.seal.ensures.sealed
-        ∙ ap (λ (v : Edition). calls.sealed v a.key.now a.nonce.now a.ad.now a.message.now a.out.now) c.named.ensures
-        ∙ sealed-known a.edition a.key.now a.nonce.now a.ad.now a.message.now a.out.now (sym c.known.ensures ∙ c.if-not-known.false)) in
+    (c.seal.ensures.sealed
+    ∙ ap (λ (v : Edition). calls.sealed v a.key.now a.nonce.now a.ad.now a.message.now a.out.now) c.named.ensures
+    ∙ sealed-known a.edition a.key.now a.nonce.now a.ad.now a.message.now a.out.now (sym c.known.ensures ∙ c.if-not-known.false)) in
     record { sealed = k.0; demand1 = k.1.0; demand2 = k.1.1 }

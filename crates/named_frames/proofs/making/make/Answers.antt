@@ -32,14 +32,14 @@ pub returns-then-not-known : goal.returns-then-not-known
 returns-then-not-known c =
     let a = c.args in
     let k = called a.edition a.key.now a.nonce.now a.identifier a.message.now a.out.now
-        (made_unknown a.edition a.key.now a.nonce.now a.identifier a.message.now a.out.now (sym c.known.ensures ∙ c.if-not-known.true)) in
+    (made_unknown a.edition a.key.now a.nonce.now a.identifier a.message.now a.out.now (sym c.known.ensures ∙ c.if-not-known.true)) in
     record { made = k.0; demand1 = k.1.0; demand2 = k.1.1 }
 
 pub returns : goal.returns
 returns c =
     let a = c.args in
     let k = called a.edition a.key.now a.nonce.now a.identifier a.message.now a.out.now
-        (c.make.ensures.made
-        ∙ ap (λ (v : Edition). calls.made v a.key.now a.nonce.now a.identifier a.message.now a.out.now) c.named.ensures
-        ∙ made-known a.edition a.key.now a.nonce.now a.identifier a.message.now a.out.now (sym c.known.ensures ∙ c.if-not-known.false)) in
+    (c.make.ensures.made
+    ∙ ap (λ (v : Edition). calls.made v a.key.now a.nonce.now a.identifier a.message.now a.out.now) c.named.ensures
+    ∙ made-known a.edition a.key.now a.nonce.now a.identifier a.message.now a.out.now (sym c.known.ensures ∙ c.if-not-known.false)) in
     record { made = k.0; demand1 = k.1.0; demand2 = k.1.1 }

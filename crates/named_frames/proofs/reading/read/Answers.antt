@@ -37,14 +37,14 @@ pub returns-then-not-known : goal.returns-then-not-known
 returns-then-not-known c =
     let a = c.args in
     let k = called a.edition a.key.now a.nonce.now a.identifier a.code a.field.now a.out.now (is-bytes (goal.at.returns-then-not-known c).After-known)
-        (read_unknown a.edition a.key.now a.nonce.now a.identifier a.code a.field.now a.out.now (sym c.known.ensures ∙ c.if-not-known.true)) in
+    (read_unknown a.edition a.key.now a.nonce.now a.identifier a.code a.field.now a.out.now (sym c.known.ensures ∙ c.if-not-known.true)) in
     record { read = k.0; demand1 = k.1.0; promises = k.1.1 }
 
 pub returns : goal.returns
 returns c =
     let a = c.args in
     let k = called a.edition a.key.now a.nonce.now a.identifier a.code a.field.now a.out.now (is-bytes (goal.at.returns c).After-known)
-        (c.read.ensures.read
-        ∙ ap (λ (v : Edition). calls.read v a.key.now a.nonce.now a.identifier a.code a.field.now a.out.now) c.named.ensures
-        ∙ read_known a.edition a.key.now a.nonce.now a.identifier a.code a.field.now a.out.now (sym c.known.ensures ∙ c.if-not-known.false)) in
+    (c.read.ensures.read
+    ∙ ap (λ (v : Edition). calls.read v a.key.now a.nonce.now a.identifier a.code a.field.now a.out.now) c.named.ensures
+    ∙ read_known a.edition a.key.now a.nonce.now a.identifier a.code a.field.now a.out.now (sym c.known.ensures ∙ c.if-not-known.false)) in
     record { read = k.0; demand1 = k.1.0; promises = k.1.1 }
