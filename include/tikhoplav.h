@@ -46,8 +46,8 @@
  *   reads, or touches one that it writes.
  *
  *   A call takes at most 2048 bytes of stack below its caller's frame. This is measured, up to the largest lengths, and
- *   not proved: 1368 bytes for sealing and opening, 1656 for making and reading a frame, 2024 for the calls on
- *   captures (at depth 6), 64 for that on signals, 888 for those on streams and for those of Grain-128a, 168 for that
+ *   not proved: 1080 bytes for sealing and opening, 1240 for making and reading a frame, 1248 for the calls on
+ *   captures (at depth 6), 56 for that on signals, 968 for those on streams, 888 for those of Grain-128a, 176 for that
  *   of Grain v1, with the memcpy and the memset of the GNU C library. Where these stand in a shared library and are
  *   bound at their first use, the dynamic linker takes stack of its own in those calls (about 3 KiB more on Linux).
  *
