@@ -1,7 +1,7 @@
 #!/usr/bin/env python3
 """Spells the repository's own definitions and lemmas as the library spells its own.
 
-Run once, at the top, after the toolchain's port.py. A definition is in snake case, a type or a module in
+Run at the top, after the toolchain's port.py, until it changes nothing more. A definition is in snake case, a type or a module in
 camel case. In a lemma's name a dash joins two names that are defined, and an underscore adds a plain word.
 """
 import collections
