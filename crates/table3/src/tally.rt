@@ -43,22 +43,13 @@ fn begin(rt: &impl Print, ok: bool, column: usize, row: &str) -> io::Result<()> 
     print!(rt; "{verdict:<11}  column {column}, {row}")
 }
 
-// The number that the lowest hex digits of a word spell.
-fn lowest(digits: usize, word: u64) -> u64 {
-    if digits < 16 {
-        word & ((1 << (4 * digits)) - 1)
-    } else {
-        word
-    }
-}
-
 // The rest of it: what came out, and what was expected where that is something else.
 fn end(rt: &impl Print, v: Compared) -> io::Result<()> {
     let digits = v.digits;
-    let found = lowest(digits, v.found);
-    let expected = lowest(digits, v.expected);
+    let found = v.found;
+    let expected = v.expected;
     print!(rt; ": {found:0digits$x}")?;
-    if v.found != v.expected {
+    if found != expected {
         print!(rt; " and not {expected:0digits$x}")?;
     }
     println!(rt)
