@@ -1,10 +1,10 @@
 -- The number that bytes spell, and the bytes that spell a word, one byte after the other.
 -- Assumes nothing.
-use mathlib.Core.Path.{◌≡◌, refl, sym, ap, ap₂, ◌∙◌}
+use mathlib.Core.Path.{◌≡◌, sym, ap, ap₂, ◌∙◌}
 use mathlib.Core.Bool.{Bool}
 use mathlib.Core.List.{List, [], ◌∷◌, ◌++◌, append-nil}
 use Prim.Native.Nat.{ℕ, zero, suc, ◌+◌, ◌-◌, ◌*◌, ◌/◌, ◌%◌, ◌^◌, ◌<◌, ◌≤◌}
-use native.Mathlib.Nat.{le_refl, div-one, sub_self, le_of_eq, not-suc-le-zero, le_of_suc-le-suc, mul-suc, add_comm, suc-sub-suc, sub-zero, zero-mul, zero-add, add_assoc, add-mul, mul_assoc}
+use native.Mathlib.Nat.{div-one, sub_self, le_of_eq, not-suc-le-zero, le_of_suc-le-suc, mul-suc, add_comm, suc-sub-suc, sub-zero, zero-mul, zero-add, add_assoc, add-mul, mul_assoc}
 use native.Mathlib.Numerals.{sub-one}
 use native.Mathlib.Omega.{arith}
 use lib.Bits.{bit_or, or_shifted}
@@ -86,26 +86,20 @@ bytes_word (suc n) w (suc i) h =
 
 -- From place i on, a string of n bytes has the lowest bytes of a word, and the rest of the word is yet to be spelled.
 abbrev pub Spelling : (w n : ℕ) → List ℕ → (rest i : ℕ) → Type 0
-Spelling w n out rest i = (i ≤ n) × (length out ≡ n) × (rest ≡ w / 2 ^ (8 * (n - i))) × (drop i out ≡ bytes (n - i) (word (8 * (n - i)) w))
+Spelling w n out rest i = (rest ≡ w / 2 ^ (8 * (n - i))) × (drop i out ≡ bytes (n - i) (word (8 * (n - i)) w))
 
 pub spelling_none : (w : ℕ) (out : List ℕ) → Spelling w (length out) out w (length out)
 unfolding bytes
-spelling_none w out = rw (sub_self (length out)) (le_refl (length out), refl, sym (div-one w), drop-length out)
+spelling_none w out = rw (sub_self (length out)) (sym (div-one w), drop-length out)
 
-pub spelling_turn : (w n : ℕ) (out : List ℕ) (rest i : ℕ) → 0 < i → Spelling w n out rest i → Spelling w n (set out (i - 1) (rest % 256)) (rest / 2 ^ 8) (i - 1)
-spelling_turn w n out rest zero pos h = absurd (not-suc-le-zero pos)
-spelling_turn w n out rest (suc j) pos (le, len, up, done) =
+pub spelling_turn : (w n : ℕ) (out : List ℕ) (rest i : ℕ) → length out ≡ n → i ≤ n → 0 < i → Spelling w n out rest i → Spelling w n (set out (i - 1) (rest % 256)) (rest / 2 ^ 8) (i - 1)
+spelling_turn w n out rest zero len le pos h = absurd (not-suc-le-zero pos)
+spelling_turn w n out rest (suc j) len le pos (up, done) =
     let more : n - j ≡ suc (n - suc j) = omega arith in
     let inside : j < length out = omega arith in
     rw (sub-one (suc j), more) (
-      omega arith,
-      length-set out j (rest % 256) ∙ len,
       ap (λ (r : ℕ). r / 2 ^ 8) up ∙ shr-shr w (8 * (n - suc j)) 8 ∙ ap (λ (k : ℕ). w / 2 ^ k) (sym (mul-suc 8 (n - suc j))),
       drop-cons (set out j (rest % 256)) j 0 (rw length-set inside)
           ∙ ap₂ ◌∷◌ (get_or-set_same out j (rest % 256) 0 inside ∙ ap (λ (r : ℕ). r % 256) up) (drop-set-lt (suc j) out j (rest % 256) (omega arith) ∙ done)
           ∙ sym (bytes-word-cons (n - suc j) w),
     )
-
-pub spelling_all : (w n : ℕ) (out : List ℕ) (rest i : ℕ) → i ≤ 0 → Spelling w n out rest i → out ≡ bytes n (word (8 * n) w)
-spelling_all w n out rest zero h (le, len, up, done) = done ∙ ap (λ (k : ℕ). bytes k (word (8 * k) w)) (sub-zero n)
-spelling_all w n out rest (suc i) h whole = absurd (not-suc-le-zero h)

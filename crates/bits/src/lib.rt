@@ -35,10 +35,8 @@ pub fn number(s: &[u8]) -> u64
     ensures { result ≡ value (bits s.now) % 2 ^ 64 }
 {
     let mut n: u64 = 0;
-    let mut i = 0;
-    while i < s.len() {
-        n = (n << 8) | wide(s[i]);
-        i += 1;
+    for byte in s {
+        n = (n << 8) | wide(*byte);
     }
     n
 }
@@ -48,9 +46,7 @@ pub fn spell(w: u64, out: &mut [u8])
     ensures { out.new ≡ bytes (length out.old) (word (8 * length out.old) w) }
 {
     let mut rest = w;
-    let mut i = out.len();
-    while 0 < i {
-        i -= 1;
+    for i in (0..out.len()).rev() {
         out[i] = (rest % 256) as u8;
         rest = rest >> 8;
     }

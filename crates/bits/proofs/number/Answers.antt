@@ -1,28 +1,20 @@
--- `bits::number` meets its contract: after i bytes the word holds what these spell.
-use mathlib.Core.Path.{refl, ap, ◌∙◌}
-use mathlib.Core.List.{List}
-use Prim.Native.Nat.{ℕ, ◌%◌, ◌^◌, ◌<◌}
+-- `bits::number` meets its contract: after the bytes before an index the word holds what these spell.
+use mathlib.Core.Path.{refl}
+use Prim.Native.Nat.{◌<◌}
 use native.Mathlib.Numerals.{add-one}
 use native.Mathlib.Omega.{arith}
 use lib.ListN.{get_or}
-use lib.Seq.{take_all}
 use Rattle.bits.specs.Bytes.{value, bits}
 use Rattle.bits.proofs.Spelling.{number_turn}
 use Rattle.bits.proofs.number.Goals as goal
 
-pub loop-i-init : goal.loop-i-init
+pub loop-byte-init : goal.loop-byte-init
 unfolding value bits
-loop-i-init c = (omega arith, refl)
+loop-byte-init c = refl
 
-pub loop-i-preserved : goal.loop-i-preserved
-loop-i-preserved c =
-    let l = c.loop-i in
+pub loop-byte-preserved : goal.loop-byte-preserved
+loop-byte-preserved c =
+    let l = c.loop-byte in
     let s = c.args.s.now in
-    let small : get_or s l.i 0 < 256 = omega (arith, c.type_inv.s l.i) in
-    (omega arith, rw add-one (number_turn s l.i l.n c.wide.result c.loop-i-test.true small c.wide.ensures l.invariant.1))
-
-pub returns : goal.returns
-returns c =
-    let l = c.loop-i in
-    let s = c.args.s.now in
-    l.invariant.1 ∙ ap (λ (r : List ℕ). value (bits r) % 2 ^ 64) (take_all l.i s (omega arith))
+    let small : get_or s l.byte-index 0 < 256 = omega (arith, c.type_inv.s l.byte-index) in
+    rw add-one (number_turn s l.byte-index l.n c.wide.result c.loop-byte-test.true small c.wide.ensures l.invariant)

@@ -1,6 +1,6 @@
 -- `bits::spell` meets its contract: from place i on, the string has the lowest bytes of the word.
 use lib.ListN.{length}
-use Rattle.bits.proofs.Spelling.{spelling_none, spelling_turn, spelling_all}
+use Rattle.bits.proofs.Spelling.{spelling_none, spelling_turn}
 use Rattle.bits.proofs.spell.Goals as goal
 
 pub loop-i-init : goal.loop-i-init
@@ -10,12 +10,4 @@ pub loop-i-preserved : goal.loop-i-preserved
 loop-i-preserved c =
     let l = c.loop-i in
     let a = c.args in
-    spelling_turn a.w (length a.out.now) l.out l.rest l.i c.loop-i-test.true l.invariant
-
-pub shape_of-out : goal.shape_of-out
-shape_of-out c = c.loop-i.invariant.1
-
-pub returns : goal.returns
-returns c =
-    let l = c.loop-i in
-    spelling_all c.args.w (length c.args.out.now) l.out l.rest l.i c.loop-i-test.false l.invariant
+    spelling_turn a.w (length a.out.now) l.out l.rest l.i l.auto.out l.auto.i c.loop-i-test.true l.invariant
