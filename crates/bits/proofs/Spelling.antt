@@ -2,7 +2,7 @@
 -- Assumes nothing.
 use mathlib.Core.Path.{◌≡◌, sym, ap, ap₂, ◌∙◌}
 use mathlib.Core.Bool.{Bool}
-use mathlib.Core.List.{List, [], ◌∷◌, ◌++◌, append-nil}
+use mathlib.Core.List.{List, [], ◌∷◌, ◌++◌}
 use Prim.Native.Nat.{ℕ, zero, suc, ◌+◌, ◌-◌, ◌*◌, ◌/◌, ◌%◌, ◌^◌, ◌<◌, ◌≤◌}
 use native.Mathlib.Nat.{div-one, sub_self, le_of_eq, not-suc-le-zero, le_of_suc-le-suc, mul-suc, add_comm, suc-sub-suc, sub-zero, zero-mul, zero-add, add_assoc, add-mul, mul_assoc}
 use native.Mathlib.Numerals.{sub-one}
@@ -10,11 +10,12 @@ use native.Mathlib.Omega.{arith}
 use lib.Bits.{bit_or, or_shifted}
 use lib.Pow.{pow-add, high, low, mod-pow-add, mod-mod-pow, shr-shr}
 use lib.ListN.{length, get_or, take, drop, set, length-append, length-set}
-use lib.Seq.{take-suc, take_at, drop_at, drop-length, drop-cons, drop-set-lt, get_or-set_same}
+use lib.Seq.{take_at, drop_at, drop-length, drop-cons, drop-set-lt, get_or-set_same}
 use Rattle.bits.specs.Bit.{digit}
-use Rattle.bits.specs.Bytes.{word, value, bits, bytes}
+use Rattle.std.specs.List.{fold}
+use Rattle.bits.specs.Bytes.{word, value, Bytes, bits, bytes}
 use Rattle.bits.proofs.Moved.{word_split}
-use Rattle.bits.proofs.Packing.{bits-append, length-bits}
+use Rattle.bits.proofs.Packing.{length-bits}
 use Rattle.bits.proofs.Word.{value-word, value-word-small, word_value, word_agrees, length-word, shl-mod}
 
 pub value-append : (s t : List Bool) → value (s ++ t) ≡ value s * 2 ^ length t + value t
@@ -26,15 +27,6 @@ value-append (b ∷ s) t =
     ∙ sym (add_assoc (digit b * 2 ^ length s * 2 ^ length t) (value s * 2 ^ length t) (value t))
     ∙ ap (λ (x : ℕ). x + value t) (sym (add-mul (digit b * 2 ^ length s) (value s) (2 ^ length t)))
 
--- One byte more.
-value_byte : (s : List ℕ) (i : ℕ) → i < length s → get_or s i 0 < 256 → value (bits (take (suc i) s)) ≡ value (bits (take i s)) * 2 ^ 8 + get_or s i 0
-unfolding bits
-value_byte s i h b =
-    ap (λ (l : List ℕ). value (bits l)) (take-suc s i 0 h)
-    ∙ ap value (bits-append (take i s) (get_or s i 0 ∷ []) ∙ ap (λ (r : List Bool). bits (take i s) ++ r) (append-nil (word 8 (get_or s i 0))))
-    ∙ value-append (bits (take i s)) (word 8 (get_or s i 0))
-    ∙ ap₂ (λ (k v : ℕ). value (bits (take i s)) * 2 ^ k + v) (length-word 8 (get_or s i 0)) (value-word-small 8 (get_or s i 0) b)
-
 -- A byte moved into a word of 64 bits.
 byte_in : (n b : ℕ) → b < 2 ^ 8 → bit_or (n % 2 ^ 64 * 2 ^ 8 % 2 ^ 64) b ≡ (n * 2 ^ 8 + b) % 2 ^ 64
 byte_in n b h =
@@ -42,12 +34,31 @@ byte_in n b h =
     ∙ or_shifted (n % 2 ^ 56) 8 b h
     ∙ sym (mod-pow-add (n * 2 ^ 8 + b) 56 8 ∙ ap₂ (λ (x y : ℕ). x % 2 ^ 56 * 2 ^ 8 + y) (high n 8 h) (low n 8 h))
 
-pub number_turn : (s : List ℕ) (i n b : ℕ) → i < length s → get_or s i 0 < 256 → b ≡ get_or s i 0 → n ≡ value (bits (take i s)) % 2 ^ 64
-    → bit_or (n * 2 ^ 8 % 2 ^ 64) b ≡ value (bits (take (suc i) s)) % 2 ^ 64
-number_turn s i n b h small eb en =
-    ap₂ (λ (x y : ℕ). bit_or (x * 2 ^ 8 % 2 ^ 64) y) en eb
-    ∙ byte_in (value (bits (take i s))) (get_or s i 0) small
-    ∙ ap (λ (x : ℕ). x % 2 ^ 64) (sym (value_byte s i h small))
+-- One byte before others.
+value_byte : (b : ℕ) (s : List ℕ) → b < 256 → value (bits (b ∷ s)) ≡ b * 2 ^ (8 * length s) + value (bits s)
+unfolding bits
+value_byte b s h =
+    value-append (word 8 b) (bits s)
+    ∙ ap₂ (λ (v k : ℕ). v * 2 ^ k + value (bits s)) (value-word-small 8 b h) (length-bits s)
+
+-- The step of a fold that moves bytes into a word of 64 bits.
+abbrev pub moved_in : (n b : ℕ) → ℕ
+moved_in n b = bit_or (n * 2 ^ 8 % 2 ^ 64) b
+
+-- Bytes moved in behind the lowest bits of n.
+all_behind : (s : List ℕ) → Bytes s → (n : ℕ) → fold moved_in (n % 2 ^ 64) s ≡ (n * 2 ^ (8 * length s) + value (bits s)) % 2 ^ 64
+unfolding value bits
+all_behind [] h n = omega arith
+all_behind (b ∷ s) h n =
+    ap (λ (m : ℕ). fold moved_in m s) (byte_in n b (h 0))
+    ∙ all_behind s (λ i. h (suc i)) (n * 2 ^ 8 + b)
+    ∙ ap (λ (m : ℕ). m % 2 ^ 64) same
+  where
+    same : (n * 2 ^ 8 + b) * 2 ^ (8 * length s) + value (bits s) ≡ n * 2 ^ (8 * suc (length s)) + value (bits (b ∷ s))
+    same = rw (value_byte b s (h 0), mul-suc 8 (length s), pow-add 2 (8 * length s) 8) (omega arith)
+
+pub all_moved_in : (s : List ℕ) → Bytes s → fold moved_in 0 s ≡ value (bits s) % 2 ^ 64
+all_moved_in s h = all_behind s h 0 ∙ ap (λ (m : ℕ). m % 2 ^ 64) (omega arith)
 
 -- Up to eight bytes as a word.
 pub spelled : (s : List ℕ) (n : ℕ) → length s ≤ 8 → n ≡ value (bits s) % 2 ^ 64 → word (8 * length s) n ≡ bits s

@@ -34,11 +34,7 @@ pub fn wide(x: u8) -> u64
 pub fn number(s: &[u8]) -> u64
     ensures { result ≡ value (bits s.now) % 2 ^ 64 }
 {
-    let mut n: u64 = 0;
-    for byte in s {
-        n = (n << 8) | wide(*byte);
-    }
-    n
+    s.iter().fold(0, |n, byte| (n << 8) | wide(*byte))
 }
 
 // Fills a byte string with the lowest bytes of a word, high byte first; what is above the word's eight bytes is zeros.
@@ -48,6 +44,6 @@ pub fn spell(w: u64, out: &mut [u8])
     let mut rest = w;
     for i in (0..out.len()).rev() {
         out[i] = (rest % 256) as u8;
-        rest = rest >> 8;
+        rest >>= 8;
     }
 }

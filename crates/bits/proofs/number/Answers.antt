@@ -1,20 +1,13 @@
--- `bits::number` meets its contract: after the bytes before an index the word holds what these spell.
-use mathlib.Core.Path.{refl}
-use Prim.Native.Nat.{◌<◌}
-use native.Mathlib.Numerals.{add-one}
+-- `bits::number` meets its contract: each byte is moved into the word behind those before it.
 use native.Mathlib.Omega.{arith}
-use lib.ListN.{get_or}
-use Rattle.bits.specs.Bytes.{value, bits}
-use Rattle.bits.proofs.Spelling.{number_turn}
+use Rattle.std.proofs.Common.{rules, tests, ◌∙◌}
+use Rattle.std.proofs.lemmas.Iterator.{YieldsList-from_slice}
+use Rattle.std.proofs.lemmas.Iterator.Consumers.{fold_from_yields_List}
+use Rattle.bits.proofs.Spelling.{moved_in, all_moved_in}
 use Rattle.bits.proofs.number.Goals as goal
 
-pub loop-byte-init : goal.loop-byte-init
-unfolding value bits
-loop-byte-init c = refl
-
-pub loop-byte-preserved : goal.loop-byte-preserved
-loop-byte-preserved c =
-    let l = c.loop-byte in
+pub returns : goal.returns
+returns c =
     let s = c.args.s.now in
-    let small : get_or s l.byte-index 0 < 256 = omega (arith, c.type_inv.s l.byte-index) in
-    rw add-one (number_turn s l.byte-index l.n c.wide.result c.loop-byte-test.true small c.wide.ensures l.invariant)
+    fold_from_yields_List _ moved_in 0 c.fold.result c.fold.ensures.ran (YieldsList-from_slice s cc) (λ n b m q k. search (rules, tests))
+    ∙ all_moved_in s (λ i. omega (arith, c.type_inv.s i))
