@@ -1,18 +1,18 @@
 -- The blank key: what it means that a byte string is, or is not, that key.
 -- Assumes nothing.
 use mathlib.Core.Path.{◌≡◌, refl, sym, ap, ◌∙◌}
-use mathlib.Core.Logic.{◌↔◌, ◌≢◌}
-use mathlib.Core.Bool.{Bool, true, false, true≢false}
-use mathlib.Core.List.{List}
-use Prim.Native.Nat.{ℕ, ◌+◌, ◌<◌}
+use mathlib.Core.Logic.{◌≢◌}
+use mathlib.Core.Bool.{Bool, true, false, true≢false, ◌&&◌, and-true, and_assoc}
+use mathlib.Core.List.{List, [], ◌∷◌}
+use Prim.Native.Nat.{ℕ, zero, suc, ◌<◌}
 use native.Mathlib.Omega.{arith}
-use native.Mathlib.Decide.{ℕ_discrete}
-use borrow.Author.Count.{below_more}
-use borrow.Author.Tests.{eq-eqb, ne_eqb}
+use borrow.Author.Tests.{ne_eqb}
 use lib.Dec.{eqb}
-use lib.Bits.{bit_or, bit_and, or_add_and, and_le_l, and_le_r}
-use lib.ListN.{length, get_or, length-replicate, get_or-replicate}
+use lib.Bits.{bit_or, or_add_and, and_le_r, or_zero_l}
+use lib.ListN.{length, get_or, replicate, length-replicate, get_or-replicate}
 use lib.Seq.{ext_get_or}
+use Rattle.std.specs.List.{fold}
+use Rattle.bits.specs.Bytes.{same}
 use Rattle.bits.proofs.Packing.{same_equal, equal_same}
 use Rattle.key.specs.Sizes.{key_size}
 use Rattle.key.specs.BlankKey.{blank_key, is_blank, Blank}
@@ -49,28 +49,26 @@ module _ (key : List ℕ) where
   unfolding blank_key
   blank_zeros e = (ap length e ∙ length-replicate {A = ℕ} key_size 0, λ i h. ap (λ (s : List ℕ). get_or s i 0) e ∙ get_or-replicate {A = ℕ} key_size i 0 0 h)
 
-  -- Bytes joined bit by bit are zero exactly when each of them is: of the bytes before place i and one more, and of a whole key.
-  pub zero_turn : (joined i : ℕ) → (joined ≡ 0) ↔ ZeroTo i → (bit_or joined (get_or key i 0) ≡ 0) ↔ ZeroTo (i + 1)
-  zero_turn joined i inv = (
-    λ e. below_more (λ k. get_or key k 0 ≡ 0) i (inv.0 (omega (arith, both, and_le_r joined byte))) (omega (arith, both, and_le_l joined byte)),
-    λ z. omega (arith, both, z i (omega arith), inv.1 (λ k h. z k (omega arith))),
-  )
-    where
-      byte : ℕ
-      byte = get_or key i 0
-
-      both : bit_or joined byte + bit_and joined byte ≡ joined + byte
-      both = or_add_and joined byte
-
-  pub zero_blank : (joined : ℕ) → length key ≡ key_size → (joined ≡ 0) ↔ ZeroTo key_size → eqb joined 0 ≡ is_blank key
-  zero_blank joined e inv =
-      elim (ℕ_discrete joined 0) [
-        | yes h ↦ eq-eqb joined 0 h ∙ sym (blank_is (zeros_blank e (inv.0 h)))
-        | no h ↦ ne_eqb joined 0 h ∙ sym (unequal_not_blank (λ b. h (inv.1 (blank_zeros b).1)))
-      ]
-
   pub wrong_size : length key ≢ key_size → is_blank key ≡ false
   wrong_size ne = unequal_not_blank (λ b. ne (blank_zeros b).0)
+
+-- Numbers joined bit by bit are zero exactly when each of them is: of two, of a list onto another number, and of a whole key.
+or_zero : (a b : ℕ) → eqb (bit_or a b) 0 ≡ (eqb a 0 && eqb b 0)
+or_zero zero b = ap (λ (n : ℕ). eqb n 0) (or_zero_l b)
+or_zero (suc a) b =
+    ne_eqb (bit_or (suc a) b) 0 (λ e. omega (arith, or_add_and (suc a) b, and_le_r (suc a) b))
+    ∙ sym (ap (λ (t : Bool). t && eqb b 0) (ne_eqb (suc a) 0 (λ e. omega arith)))
+
+joined_zero : (s : List ℕ) (a : ℕ) → eqb (fold bit_or a s) 0 ≡ (eqb a 0 && same s (replicate (length s) 0))
+unfolding same
+joined_zero [] a = sym (and-true (eqb a 0))
+joined_zero (b ∷ s) a =
+    joined_zero s (bit_or a b) ∙ ap (λ (t : Bool). t && same s (replicate (length s) 0)) (or_zero a b)
+    ∙ and_assoc (eqb a 0) (eqb b 0) (same s (replicate (length s) 0))
+
+pub zero_blank : (key : List ℕ) → length key ≡ key_size → eqb (fold bit_or 0 key) 0 ≡ is_blank key
+unfolding is_blank blank_key
+zero_blank key e = joined_zero key 0 ∙ ap (λ (n : ℕ). same key (replicate n 0)) e
 
 pub blank : Blank
 blank key = (λ h. blank_zeros key (is_blank_lem key h), λ z. blank_is key (zeros_blank key z.0 z.1))

@@ -8,14 +8,5 @@ ghost use Rattle.key.specs.BlankKey.{is_blank};
 pub fn is_blank(key: &[u8]) -> bool
     ensures { result ≡ is_blank key.now }
 {
-    if key.len() != 16 {
-        return false;
-    }
-    let mut joined: u8 = 0;
-    let mut i = 0;
-    while i < 16 {
-        joined = joined | key[i];
-        i += 1;
-    }
-    joined == 0
+    key.len() == 16 && key.iter().fold(0, |joined, byte| joined | *byte) == 0
 }

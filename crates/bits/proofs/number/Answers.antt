@@ -9,5 +9,5 @@ use Rattle.bits.proofs.number.Goals as goal
 pub returns : goal.returns
 returns c =
     let s = c.args.s.now in
-    fold_from_yields_List _ moved_in 0 c.fold.result c.fold.ensures.ran (YieldsList-from_slice s cc) (λ n b m q k. search (rules, tests))
+    fold_from_yields_List _ moved_in 0 c.fold.result c.fold.ensures.ran (YieldsList-from_slice s c.iter.ensures.rest) (λ n b m q k. search (rules, tests))
     ∙ all_moved_in s (λ i. omega (arith, c.type_inv.s i))
