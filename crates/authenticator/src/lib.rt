@@ -20,17 +20,15 @@ pub struct Tagger {
 pub fn absorb(t: Tagger, m: u64, new: u64) -> Tagger
     ensures { authenticator_of result ≡ authenticator.absorb (authenticator_of t) (lowest m) (lowest new) }
 {
-    let moved = bits::shift_in(t.register, new);
-    if m % 2 == 1 {
-        Tagger {
-            accumulator: t.accumulator ^ t.register,
-            register: moved,
-        }
+    let register = bits::shift_in(t.register, new);
+    let accumulator = if m % 2 == 1 {
+        t.accumulator ^ t.register
     } else {
-        Tagger {
-            accumulator: t.accumulator,
-            register: moved,
-        }
+        t.accumulator
+    };
+    Tagger {
+        accumulator,
+        register,
     }
 }
 
@@ -39,9 +37,7 @@ pub fn absorb_byte(t: Tagger, m: u64, new: u64) -> Tagger
     ensures { authenticator_of result ≡ authenticator.absorb_all (authenticator_of t) (word 8 m) (places (word 8 new)) }
 {
     let mut now = t;
-    let mut left: usize = 8;
-    while 0 < left {
-        left -= 1;
+    for left in (0..8u32).rev() {
         now = absorb(now, m >> left, new >> left);
     }
     now

@@ -31,12 +31,8 @@ pub fn product(r: u64, m: u64) -> u64
     ];
     // From the last four bits of `m` to the first.
     let mut z: u64 = 0;
-    let mut left = m;
-    let mut q: u32 = 0;
-    while q < 8 {
-        z = (z << 4) ^ table[(left % 16) as usize];
-        left = left >> 4;
-        q += 1;
+    for q in 0..8u32 {
+        z = (z << 4) ^ table[((m >> (4 * q)) % 16) as usize];
     }
     z
 }

@@ -1,10 +1,6 @@
 -- `authenticator::products::product` meets its contract: after q turns the sum is that over the last 4 q bits of `m`.
-use Prim.Native.Nat.{◌-◌, ◌≤◌}
 use Rattle.authenticator.proofs.Table.{Taken}
 use Rattle.authenticator.proofs.products.product.Given as goal
 
 abbrev pub invariant-loop-q : goal.invariant-loop-q
-invariant-loop-q l = (l.q ≤ 8) × Taken 64 4 l.r l.m l.q l.left l.z
-
-abbrev pub decreases-loop-q : goal.decreases-loop-q
-decreases-loop-q l = 8 - l.q
+invariant-loop-q l = Taken 64 4 l.r l.m l.q l.z
