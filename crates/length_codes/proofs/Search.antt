@@ -1,30 +1,30 @@
--- The first length of a list that holds n, looked for one place after the other.
+-- The place of the first length of a list that holds n; the lengths of the table rise.
 -- Assumes nothing.
-use mathlib.Core.Path.{◌≡◌, ap, ◌∙◌}
-use mathlib.Core.Bool.{Bool, true, false, cond}
-use mathlib.Core.List.{List}
-use Prim.Native.Nat.{ℕ, suc, ◌+◌, ◌≤◌, ◌<◌}
+use mathlib.Core.Path.{◌≡◌, refl, sym, ap, ◌∙◌}
+use mathlib.Core.Bool.{Bool, cond}
+use mathlib.Core.List.{List, [], ◌∷◌}
+use Prim.Native.Nat.{ℕ, zero, suc, suc-le-suc, ◌+◌, ◌≤◌, ◌<◌}
+use native.Mathlib.Nat.{not-suc-le-zero, le_of_suc-le-suc}
+use native.Mathlib.Numerals.{add-one}
 use native.Mathlib.Omega.{arith}
 use borrow.Author.Tests.{le-leb, lt-leb}
-use lib.Dec.{leb}
-use lib.ListN.{length, get_or, drop, drop_of_length-le}
-use lib.Seq.{drop-cons}
-use Rattle.length_codes.specs.LengthCodes.{first_holding}
+use lib.ListN.{length, get_or}
+use Rattle.std.specs.List.Sorted.{IsNonDecreasing}
+use Rattle.std.proofs.lemmas.Grind.{get_or_default_zero}
+use Rattle.std.proofs.lemmas.List.Sorted.{IsNonDecreasingBy-from_all_adjacent}
+use Rattle.length_codes.specs.LengthCodes.{coded_lengths, coded_length, first_holding}
+use Rattle.length_codes.proofs.Rule.{table}
 
-module _ (ls : List ℕ) (n i : ℕ) where
-  at : i < length ls → (b : Bool) → leb n (get_or ls i 0) ≡ b → first_holding (drop i ls) n ≡ cond b 0 (suc (first_holding (drop (suc i) ls) n))
-  unfolding first_holding
-  at h b e = ap (λ (l : List ℕ). first_holding l n) (drop-cons ls i 0 h) ∙ ap (λ (t : Bool). cond t 0 (suc (first_holding (drop (suc i) ls) n))) e
+-- Each length before it is less than n, and its own is not.
+pub first_at : (ls : List ℕ) (n i : ℕ) → i ≤ length ls → ((k : ℕ) → k < i → get_or ls k 0 < n) → (i < length ls → n ≤ get_or ls i 0) → i ≡ first_holding ls n
+unfolding first_holding
+first_at [] n zero inside before here = refl
+first_at [] n (suc i) inside before here = absurd (not-suc-le-zero inside)
+first_at (l ∷ ls) n zero inside before here = sym (ap (λ (b : Bool). cond b 0 (suc (first_holding ls n))) (le-leb n l (here (omega arith))))
+first_at (l ∷ ls) n (suc i) inside before here =
+    ap suc (first_at ls n i (le_of_suc-le-suc inside) (λ k h. before (suc k) (suc-le-suc h)) (λ h. here (suc-le-suc h)))
+    ∙ sym (ap (λ (b : Bool). cond b 0 (suc (first_holding ls n))) (lt-leb n l (before zero (omega arith))))
 
-  pub search_found : i < length ls → n ≤ get_or ls i 0 → first_holding (drop i ls) n ≡ 0
-  search_found h holds = at h true (le-leb n (get_or ls i 0) holds)
-
-  pub search_on : i < length ls → get_or ls i 0 < n → first_holding (drop i ls) n ≡ 1 + first_holding (drop (i + 1) ls) n
-  search_on h less =
-      let next : suc i ≡ i + 1 = omega arith in
-      let onto : first_holding (drop (suc i) ls) n ≡ first_holding (drop (i + 1) ls) n = ap (λ (k : ℕ). first_holding (drop k ls) n) next in
-      omega (arith, at h false (lt-leb n (get_or ls i 0) less), onto)
-
-  pub search_over : length ls ≤ i → first_holding (drop i ls) n ≡ 0
-  unfolding first_holding
-  search_over h = ap (λ (l : List ℕ). first_holding l n) (drop_of_length-le ls h)
+pub rising : IsNonDecreasing coded_lengths
+unfolding coded_length coded_lengths
+rising = IsNonDecreasingBy-from_all_adjacent (λ n. n) coded_lengths (λ k d h. rw (get_or_default_zero coded_lengths k d (omega arith), get_or_default_zero coded_lengths (k + 1) d h, add-one) (omega (arith, table.rises k (omega arith))))

@@ -20,12 +20,5 @@ pub fn coded_length(code: u32) -> usize
 pub fn length_code(length: usize) -> u32
     ensures { result ≡ codes.length_code length }
 {
-    let mut code: u32 = 0;
-    while code < 16 {
-        if length <= coded_length(code) {
-            return code;
-        }
-        code += 1;
-    }
-    code
+    LENGTHS.partition_point(|l| *l < length) as u32
 }
