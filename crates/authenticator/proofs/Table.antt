@@ -2,12 +2,14 @@
 -- Assumes nothing.
 use mathlib.Core.Path.{◌≡◌, sym, ap, ap₂, ◌∙◌}
 use mathlib.Core.Bool.{Bool, true, false}
-use mathlib.Core.List.{List, [], ◌∷◌}
+use mathlib.Core.List.{List, [], ◌∷◌, ◌++◌, map}
 use Prim.Native.Nat.{ℕ, zero, suc, ◌+◌, ◌*◌, ◌/◌, ◌%◌, ◌^◌, ◌<◌}
 use native.Mathlib.Nat.{not-suc-le-zero, le_of_suc-le-suc, le_of_eq, zero-add, add-zero, add-suc, suc-add, add_comm, mul-one, mul-suc, mul_assoc, mul-zero, mod-lt, mod-mod}
 use lib.Bits.{bit_xor}
 use lib.ListN.{length, get_or}
 use lib.Pow.{pow_pos, pow-add}
+use Rattle.std.specs.List.{range_with_len}
+use Rattle.std.proofs.lemmas.List.FromFn.{get_or-map-range_with_len}
 use Rattle.bits.specs.Bytes.{word}
 use Rattle.bits.specs.Strings.{◌⊞◌}
 use Rattle.bits.proofs.Lowest.{word-xor}
@@ -59,20 +61,9 @@ module _ (w : ℕ) (x : ℕ → ℕ) where
   word-joined i (true ∷ s) = word-onto (x i) (suc i) s
   word-joined i (false ∷ s) = word-joined (suc i) s
 
--- The values of f at n numbers from i on.
-unfoldable pub values_of : (ℕ → ℕ) → (i n : ℕ) → List ℕ
-values_of f i zero = []
-values_of f i (suc n) = f i ∷ values_of f (suc i) n
-
-get_or-values_of : (f : ℕ → ℕ) (i n k : ℕ) → k < n → get_or (values_of f i n) k 0 ≡ f (i + k)
-unfolding values_of
-get_or-values_of f i zero k h = absurd (not-suc-le-zero h)
-get_or-values_of f i (suc n) zero h = ap f (sym (add-zero i))
-get_or-values_of f i (suc n) (suc k) h = get_or-values_of f (suc i) n k (le_of_suc-le-suc h) ∙ ap f (suc-add i k ∙ sym (add-suc i k))
-
 -- Entry v: the word moved up by the places where the n bits of v have a 1.
 unfoldable pub table : (w n r : ℕ) → List ℕ
-table w n r = values_of (λ v. joined (moved w r) 0 (word n v)) 0 (2 ^ n)
+table w n r = map (λ v. joined (moved w r) 0 (word n v)) (range_with_len 0 (2 ^ n))
 
 -- What the last n * k bits of m add up to.
 abbrev pub Taken : (w n r m k z : ℕ) → Type 0
@@ -82,8 +73,8 @@ module _ (w n r : ℕ) where
   table_at : (v : ℕ) → word w (get_or (table w n r) (v % 2 ^ n) 0) ≡ registers_at w (ups w r) 0 (word n v)
   unfolding table
   table_at v =
-      ap (word w) (get_or-values_of (λ v. joined (moved w r) 0 (word n v)) 0 (2 ^ n) (v % 2 ^ n) (mod-lt v (pow_pos n)))
-      ∙ ap (λ (s : List Bool). word w (joined (moved w r) 0 s)) (ap (word n) (zero-add (v % 2 ^ n)) ∙ word_agrees n (v % 2 ^ n) v (mod-mod v (2 ^ n)))
+      ap (word w) (get_or-map-range_with_len (λ v. joined (moved w r) 0 (word n v)) 0 (2 ^ n) (v % 2 ^ n) (v % 2 ^ n) 0 (mod-lt v (pow_pos n)) (zero-add (v % 2 ^ n)))
+      ∙ ap (λ (s : List Bool). word w (joined (moved w r) 0 s)) (word_agrees n (v % 2 ^ n) v (mod-mod v (2 ^ n)))
       ∙ word-joined w (moved w r) 0 (word n v)
       ∙ (λ p. registers_at w (λ j. word_moved w r j p) 0 (word n v))
 

@@ -4,12 +4,13 @@ use mathlib.Core.Path.{◌≡◌, refl, sym, ap, ap₂, ◌∙◌, subst}
 use mathlib.Core.Bool.{Bool, false}
 use mathlib.Core.List.{List, [], ◌∷◌, ◌++◌, foldl, append_assoc}
 use Prim.Native.Nat.{ℕ, zero, suc, ◌+◌, ◌-◌, ◌*◌, ◌/◌, ◌%◌, ◌^◌, ◌<◌, ◌≤◌}
-use native.Mathlib.Nat.{add-zero, mod-mod, not-suc-le-zero, le_of_suc-le-suc}
+use native.Mathlib.Nat.{add-zero, mod-mod}
 use native.Mathlib.Omega.{arith}
 use lib.Bits.{bit_or}
 use lib.ListN.{length, length-replicate, take, drop, take-append-drop}
 use lib.Pow.{pow_pos, shr-shr, shr_lt}
 use lib.Seq.{drop-append-le, take-append-le, length-take-le, take_at, drop_at, get_or-drop}
+use Rattle.std.proofs.lemmas.List.{take-replicate}
 use Rattle.bits.specs.Bytes.{word}
 use Rattle.bits.specs.Strings.{shift, zeros, places}
 use Rattle.bits.proofs.Moved.{word-zero, word_split, word-or}
@@ -57,17 +58,12 @@ places-zeros [] (suc m) (suc i) = places-zeros [] m i
 places-zeros (b ∷ s) m zero = refl
 places-zeros (b ∷ s) m (suc i) = places-zeros s m i
 
-take-zeros : (n m : ℕ) → n ≤ m → take n (zeros m) ≡ zeros n
-take-zeros zero m h = refl
-take-zeros (suc n) zero h = absurd (not-suc-le-zero h)
-take-zeros (suc n) (suc m) h = ap (λ (s : List Bool). false ∷ s) (take-zeros n m (le_of_suc-le-suc h))
-
 -- The words that two words and zeros become.
 pub left_places : (n w0 w1 v0 v1 i : ℕ) → n < 64 → word 64 v0 ≡ drop n (word 64 w0) ++ take n (word 64 w1) → word 64 v1 ≡ drop n (word 64 w1) ++ take n (word 64 0)
     → places (word 64 v0 ++ word 64 v1) i ≡ places (word 64 w0 ++ word 64 w1) (n + i)
 left_places n w0 w1 v0 v1 i h e0 e1 =
     ap (λ (s : List Bool). places s i) (ap₂ ◌++◌ e0 e1 ∙ slide_both n (word 64 w0) (word 64 w1) (take n (word 64 0)) (omega (arith, length-word 64 w0)) (omega (arith, length-word 64 w1)))
-    ∙ ap (λ (s : List Bool). places (drop n (word 64 w0 ++ word 64 w1) ++ s) i) (ap (take n) (word-zero 64) ∙ take-zeros n 64 (omega arith))
+    ∙ ap (λ (s : List Bool). places (drop n (word 64 w0 ++ word 64 w1) ++ s) i) (ap (take n) (word-zero 64) ∙ take-replicate n 64 false (omega arith))
     ∙ places-zeros (drop n (word 64 w0 ++ word 64 w1)) n i
     ∙ get_or-drop n (word 64 w0 ++ word 64 w1) i false
 

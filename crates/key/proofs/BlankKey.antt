@@ -1,6 +1,6 @@
 -- The blank key: what it means that a byte string is, or is not, that key.
 -- Assumes nothing.
-use mathlib.Core.Path.{◌≡◌, refl, sym, ap, ◌∙◌}
+use mathlib.Core.Path.{◌≡◌, sym, ap, ◌∙◌}
 use mathlib.Core.Logic.{◌≢◌}
 use mathlib.Core.Bool.{Bool, true, false, true≢false, ◌&&◌, and-true, and_assoc}
 use mathlib.Core.List.{List, [], ◌∷◌}
@@ -12,6 +12,7 @@ use lib.Bits.{bit_or, or_add_and, and_le_r, or_zero_l}
 use lib.ListN.{length, get_or, replicate, length-replicate, get_or-replicate}
 use lib.Seq.{ext_get_or}
 use Rattle.std.specs.List.{fold}
+use Rattle.std.proofs.lemmas.Bool.{false_from_ne_true}
 use Rattle.bits.specs.Bytes.{same}
 use Rattle.bits.proofs.Packing.{same_equal, equal_same}
 use Rattle.key.specs.Sizes.{key_size}
@@ -35,11 +36,7 @@ module _ (key : List ℕ) where
   not_blank h e = true≢false (sym (blank_is e) ∙ h)
 
   pub unequal_not_blank : key ≢ blank_key → is_blank key ≡ false
-  unequal_not_blank ne = go (is_blank key) refl
-    where
-      go : (b : Bool) → is_blank key ≡ b → b ≡ false
-      go true h = absurd (ne (is_blank_lem h))
-      go false h = refl
+  unequal_not_blank ne = false_from_ne_true (is_blank key) (λ h. ne (is_blank_lem h))
 
   zeros_blank : length key ≡ key_size → ZeroTo key_size → key ≡ blank_key
   unfolding blank_key
