@@ -49,11 +49,9 @@ pub fn run(r: Run, a: Adding, clocks: usize) -> Run
 {
     let mut now = r;
     let mut to_add = a;
-    let mut left = clocks;
-    while 0 < left {
+    for _ in 0..clocks {
         now = next(now, to_add);
         to_add = added::left(to_add, 1);
-        left -= 1;
     }
     now
 }
