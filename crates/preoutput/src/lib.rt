@@ -3,7 +3,7 @@
 
 pub mod added;
 pub mod plain;
-mod taps;
+pub mod taps;
 
 ghost use Rattle.std.specs.Prelude.{◌≡◌};
 
