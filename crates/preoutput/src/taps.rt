@@ -1,6 +1,6 @@
 // The published functions on words. What stands at a place comes moved to the lower end of a word, and the lower end of the result is the
 // function's value.
-ghost use Rattle.std.specs.Prelude.{◌≡◌, ℕ, ◌<◌};
+ghost use Rattle.std.specs.Prelude.{◌≡◌, ℕ};
 ghost use Rattle.generators.specs.Algebra.{words};
 ghost use Rattle.preoutput.specs.Functions.{L, F, y};
 ghost use Rattle.preoutput.specs.Words.{tap};
@@ -10,7 +10,6 @@ pub trait Places: Copy {
     ghost at: { Self → ℕ → ℕ };
 
     fn place(self, k: u32) -> u64
-        requires { k < 97 }
         ensures { result ≡ at self k };
 }
 
@@ -24,8 +23,10 @@ impl Places for Taps {
     fn place(self, k: u32) -> u64 {
         if k < 64 {
             self.0 >> (63 - k)
-        } else {
+        } else if k < 128 {
             self.1 >> (127 - k)
+        } else {
+            0
         }
     }
 }

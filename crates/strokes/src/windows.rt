@@ -29,7 +29,7 @@ impl Places for Windows {
         } else if k < 64 {
             self.1 >> (64 - k)
         } else {
-            self.2 >> (96 - k)
+            self.2 >> 96u32.saturating_sub(k)
         }
     }
 }
