@@ -5,7 +5,7 @@ ghost use Rattle.generators.specs.Algebra.{words};
 ghost use Rattle.preoutput.specs.Functions.{L, F, y};
 ghost use Rattle.preoutput.specs.Words.{tap};
 
-// The places of a register that are tapped.
+// The places of a register, each moved to the lower end of a word.
 pub trait Places: Copy {
     ghost at: { Self → ℕ → ℕ };
 

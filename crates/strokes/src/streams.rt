@@ -39,6 +39,18 @@ fn parted(r: Run) -> Streamed
     }
 }
 
+// The clocks of two strokes, all of whose pre-outputs fill the word. It is taken into the loops that call it.
+#[inline(always)]
+fn two_strokes(g: Registers) -> Run
+    ensures { Keystreams 1 64 (generator_of g) result.registers result.outputs }
+{
+    let half = stroke::plain_stroke(g);
+    Run {
+        registers: stroke::plain_stroke(half),
+        outputs: bits::slide(stroke::outputs(g), stroke::outputs(half) << 32, 32),
+    }
+}
+
 // The clocks of eight string bits.
 pub fn stream_byte(g: Registers) -> Streamed
     ensures { Streams 8 (generator_of g) result }
@@ -53,11 +65,7 @@ pub fn stream_byte(g: Registers) -> Streamed
 pub fn stream_word(g: Registers) -> Streamed
     ensures { Streams 32 (generator_of g) result }
 {
-    let half = stroke::plain_stroke(g);
-    parted(Run {
-        registers: stroke::plain_stroke(half),
-        outputs: bits::slide(stroke::outputs(g), stroke::outputs(half) << 32, 32),
-    })
+    parted(two_strokes(g))
 }
 
 // The clocks of 32 keystream bits where every pre-output is one.
@@ -102,11 +110,7 @@ pub fn keystream_word(g: Registers, taken: Taken) -> Keystreamed
             keystream: bits::slide(0, stroke::outputs(g) << 32, 32),
         },
         Taken::EverySecond => {
-            let half = stroke::plain_stroke(g);
-            let s = parted(Run {
-                registers: stroke::plain_stroke(half),
-                outputs: bits::slide(stroke::outputs(g), stroke::outputs(half) << 32, 32),
-            });
+            let s = parted(two_strokes(g));
             let registers = s.registers;
             Keystreamed {
                 registers,
