@@ -39,7 +39,8 @@ fn parted(r: Run) -> Streamed
     }
 }
 
-// The clocks of two strokes, all of whose pre-outputs fill the word. It is taken into the loops that call it.
+// The clocks of two strokes, all of whose pre-outputs fill the word. Like preoutput_word it is taken into the loops of its callers, where a
+// call would put the registers into memory.
 #[inline(always)]
 fn two_strokes(g: Registers) -> Run
     ensures { Keystreams 1 64 (generator_of g) result.registers result.outputs }
@@ -69,6 +70,7 @@ pub fn stream_word(g: Registers) -> Streamed
 }
 
 // The clocks of 32 keystream bits where every pre-output is one.
+#[inline(always)]
 pub fn preoutput_word(g: Registers) -> Keystreamed
     ensures { Keystreams 1 32 (generator_of g) result.registers result.keystream }
 {
@@ -100,15 +102,12 @@ pub fn keystream_byte(g: Registers, taken: Taken) -> Keystreamed
     }
 }
 
-// The clocks of 32 keystream bits. It is written out, since what has one caller is compiled into that caller's loop.
+// The clocks of 32 keystream bits.
 pub fn keystream_word(g: Registers, taken: Taken) -> Keystreamed
     ensures { Keystreams (spacing taken) 32 (generator_of g) result.registers result.keystream }
 {
     match taken {
-        Taken::Every => Keystreamed {
-            registers: stroke::plain_stroke(g),
-            keystream: bits::slide(0, stroke::outputs(g) << 32, 32),
-        },
+        Taken::Every => preoutput_word(g),
         Taken::EverySecond => {
             let s = parted(two_strokes(g));
             let registers = s.registers;

@@ -1,13 +1,8 @@
 -- `strokes::streams::keystream_word` meets its contract.
 use native.Mathlib.Omega.{arith}
 use Rattle.preoutput.specs.Words.{generator_of}
-use Rattle.strokes.proofs.PlainStreams.{streams, one_stroke}
+use Rattle.strokes.proofs.PlainStreams.{streams}
 use Rattle.strokes.proofs.streams.keystream_word.Goals as goal
-
-pub returns-in-Every : goal.returns-in-Every
-returns-in-Every c =
-    rw c.in-Every.is
-    (one_stroke 32 c.args.g c.outputs.result (omega arith) c.plain_stroke.ensures c.outputs.ensures c.slide.ensures)
 
 pub returns-in-EverySecond : goal.returns-in-EverySecond
 returns-in-EverySecond c =
