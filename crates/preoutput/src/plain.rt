@@ -8,21 +8,22 @@ ghost use Rattle.preoutput.specs.Functions.{grain128};
 ghost use Rattle.preoutput.specs.Words.{generator_of};
 ghost use Rattle.preoutput.specs.Running.{running_of, to_lfsr, to_nfsr};
 
+use crate::taps::Taps;
 use crate::{Adding, Registers, Run, added, taps};
 
 // The pre-output, 0 or 1.
 pub fn preoutput(g: Registers) -> u64
     ensures { result ≡ digit (generator.preoutput grain128 (generator_of g)) }
 {
-    taps::output(g.lfsr0, g.lfsr1, g.nfsr0, g.nfsr1) % 2
+    taps::output(Taps(g.lfsr0, g.lfsr1), Taps(g.nfsr0, g.nfsr1)) % 2
 }
 
 // One clock, with the lowest bits of `to_lfsr` and `to_nfsr` added to the new bits.
 pub fn clock(g: Registers, to_lfsr: u64, to_nfsr: u64) -> Registers
     ensures { generator_of result ≡ generator.clock grain128 (generator_of g) (lowest to_lfsr) (lowest to_nfsr) }
 {
-    let s = taps::linear(g.lfsr0, g.lfsr1) ^ to_lfsr;
-    let b = (g.lfsr0 >> 63) ^ taps::nonlinear(g.nfsr0, g.nfsr1) ^ to_nfsr;
+    let s = taps::linear(Taps(g.lfsr0, g.lfsr1)) ^ to_lfsr;
+    let b = (g.lfsr0 >> 63) ^ taps::nonlinear(Taps(g.nfsr0, g.nfsr1)) ^ to_nfsr;
     Registers {
         lfsr0: bits::shift_in(g.lfsr0, g.lfsr1 >> 63),
         lfsr1: bits::shift_in(g.lfsr1, s),
@@ -49,11 +50,9 @@ pub fn run(r: Run, a: Adding, clocks: usize) -> Run
 {
     let mut now = r;
     let mut to_add = a;
-    let mut left = clocks;
-    while 0 < left {
+    for _ in 0..clocks {
         now = next(now, to_add);
         to_add = added::left(to_add, 1);
-        left -= 1;
     }
     now
 }

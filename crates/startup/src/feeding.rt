@@ -12,18 +12,7 @@ use preoutput::{Adding, Registers, Run};
 pub fn feed_back(g: Registers, clocks: usize) -> Registers
     ensures { generator_of result ≡ times clocks (fed_back grain128) (generator_of g) }
 {
-    let empty = Run {
-        registers: g,
-        outputs: 0,
-    };
-    let fed_back = Adding {
-        fed: true,
-        lfsr0: 0,
-        lfsr1: 0,
-        nfsr0: 0,
-        nfsr1: 0,
-    };
-    let r = strokes::run(empty, fed_back, clocks);
+    let r = strokes::run(Run::begun(g), Adding::FED_BACK, clocks);
     r.registers
 }
 
@@ -31,17 +20,11 @@ pub fn feed_back(g: Registers, clocks: usize) -> Registers
 pub fn feed_back_with(g: Registers, to_lfsr: u64, to_nfsr: u64) -> Registers
     ensures { generator_of result ≡ fed_back_with grain128 (generator_of g) (word 64 to_lfsr) (word 64 to_nfsr) }
 {
-    let empty = Run {
-        registers: g,
-        outputs: 0,
-    };
-    let fed_back = Adding {
-        fed: true,
+    let to_add = Adding {
         lfsr0: to_lfsr,
-        lfsr1: 0,
         nfsr0: to_nfsr,
-        nfsr1: 0,
+        ..Adding::FED_BACK
     };
-    let r = strokes::run(empty, fed_back, 64);
+    let r = strokes::run(Run::begun(g), to_add, 64);
     r.registers
 }

@@ -8,16 +8,9 @@ use preoutput::{Adding, Registers, Run};
 pub fn fill(g: Registers, added: u64) -> Run
     ensures { Fills g (word 64 added) result }
 {
-    let empty = Run {
-        registers: g,
-        outputs: 0,
-    };
-    let to_lfsr = Adding {
-        fed: false,
+    let to_add = Adding {
         lfsr0: added,
-        lfsr1: 0,
-        nfsr0: 0,
-        nfsr1: 0,
+        ..Adding::NOTHING
     };
-    strokes::run(empty, to_lfsr, 64)
+    strokes::run(Run::begun(g), to_add, 64)
 }

@@ -1,20 +1,13 @@
--- Runs that hold the same are the same words, and words compared.
+-- Runs that hold the same are the same words.
 -- Assumes nothing.
-use mathlib.Core.Path.{◌≡◌, refl, sym, ap, ◌∙◌}
-use mathlib.Core.Logic.{◌↔◌}
-use mathlib.Core.Bool.{true}
+use mathlib.Core.Path.{◌≡◌, sym, ap, ◌∙◌}
 use mathlib.Core.List.{◌++◌}
 use Prim.Native.Nat.{ℕ, ◌^◌, ◌<◌}
-use native.Mathlib.Omega.{arith}
-use borrow.Author.Tests.{eqb-true}
-use lib.Bits.{bit_xor, bit_or, xor_self, xor_add_and, or_add_and, and_le_l, and_le_r}
-use lib.Dec.{eqb}
 use lib.ListN.{take, drop}
 use lib.Seq.{take_at, drop_at}
 use Rattle.bits.specs.Bytes.{word, value}
 use Rattle.bits.proofs.Word.{length-word, value-word-small}
 use Rattle.generators.specs.Running.{Running}
-use Rattle.preoutput.specs.declared.Run.{Run}
 use Rattle.preoutput.specs.Words.{generator_of}
 use Rattle.preoutput.specs.Running.{running_of}
 use Rattle.strokes.specs.Engines.{Agree}
@@ -45,40 +38,3 @@ agree a b ha hb e = λ i. record {
 
     nfsr : word 64 a.registers.nfsr0 ++ word 64 a.registers.nfsr1 ≡ word 64 b.registers.nfsr0 ++ word 64 b.registers.nfsr1
     nfsr = ap (λ (r : Running). r.generator.nfsr) e
-
--- Words compared by the sums of their bits, joined.
-no_sum : (x y : ℕ) → bit_xor x y ≡ 0 → x ≡ y
-no_sum x y e = omega (arith, xor_add_and x y, and_le_l x y, and_le_r x y)
-
-neither : (x y : ℕ) → bit_or x y ≡ 0 → (x ≡ 0) × (y ≡ 0)
-neither x y e = (omega (arith, or_add_and x y, and_le_l x y, and_le_r x y), omega (arith, or_add_and x y, and_le_l x y, and_le_r x y))
-
-abbrev sums : Run → Run → ℕ
-sums a b =
-    bit_or
-    (bit_or
-    (bit_or (bit_xor a.registers.lfsr0 b.registers.lfsr0) (bit_xor a.registers.lfsr1 b.registers.lfsr1))
-    (bit_or (bit_xor a.registers.nfsr0 b.registers.nfsr0) (bit_xor a.registers.nfsr1 b.registers.nfsr1)))
-    (bit_xor a.outputs b.outputs)
-
-pub compared : (a b : Run) → (eqb (sums a b) 0 ≡ true) ↔ (a ≡ b)
-compared a b = (λ e. equal (eqb-true (sums a b) 0 e), λ e. ap (λ (c : Run). eqb (sums c b) 0) e ∙ same b)
-  where
-    same : (c : Run) → eqb (sums c c) 0 ≡ true
-    same c = simp xor_self refl
-
-    equal : sums a b ≡ 0 → a ≡ b
-    equal e =
-        let all = neither _ _ e in
-        let registers = neither _ _ all.0 in
-        let lfsr = neither _ _ registers.0 in
-        let nfsr = neither _ _ registers.1 in
-        λ i. record {
-          registers = record {
-            lfsr0 = no_sum a.registers.lfsr0 b.registers.lfsr0 lfsr.0 i;
-            lfsr1 = no_sum a.registers.lfsr1 b.registers.lfsr1 lfsr.1 i;
-            nfsr0 = no_sum a.registers.nfsr0 b.registers.nfsr0 nfsr.0 i;
-            nfsr1 = no_sum a.registers.nfsr1 b.registers.nfsr1 nfsr.1 i;
-          };
-          outputs = no_sum a.outputs b.outputs all.1 i;
-        }

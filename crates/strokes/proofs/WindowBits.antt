@@ -47,7 +47,7 @@ last-places : (w0 w64 : ℕ) → word 64 w64 ≡ take 64 (drop 64 (both w0 w64))
 last-places w0 w64 = sym (ap (take 64) (drop_at (word 64 w0) (word 64 w64) 64 (length-word 64 w0)) ∙ take_all 64 (word 64 w64) (omega (arith, length-word 64 w64)))
 
 -- So each window that is tapped stands in one of them.
-windows : (w0 w32 w64 : ℕ) → word 64 w32 ≡ drop 32 (word 64 w0) ++ take 32 (word 64 w64) → Windows 32 97 (both w0 w64) (window w0 w32 w64)
+pub windows : (w0 w32 w64 : ℕ) → word 64 w32 ≡ drop 32 (word 64 w0) ++ take 32 (word 64 w64) → Windows 32 97 (both w0 w64) (window w0 w32 w64)
 windows w0 w32 w64 middle = record { shows = shows }
   where
     shows : (k i : ℕ) → k < 97 → i < 32 → bit (32 - suc i) (window w0 w32 w64 k) ≡ places (both w0 w64) (k + i)
@@ -67,19 +67,19 @@ kept j = functions_kept words single (bit j) (bit-xor j) (bit-and j)
 
 -- What the functions at windows give, as lists.
 module _ (g : Registers) where
-  pub outputs-listed : (s32 b32 : ℕ) → word 64 s32 ≡ drop 32 (word 64 g.lfsr0) ++ take 32 (word 64 g.lfsr1) → word 64 b32 ≡ drop 32 (word 64 g.nfsr0) ++ take 32 (word 64 g.nfsr1)
-      → word 32 (y words (window g.lfsr0 s32 g.lfsr1) (window g.nfsr0 b32 g.nfsr1)) ≡ listed 32 (output_at grain128 (generator_of g))
+  pub outputs-listed : {s b : ℕ → ℕ} → Windows 32 97 (both g.lfsr0 g.lfsr1) s → Windows 32 97 (both g.nfsr0 g.nfsr1) b
+      → word 32 (y words s b) ≡ listed 32 (output_at grain128 (generator_of g))
   unfolding generator_of
-  outputs-listed s32 b32 ms mb = bitwise.outputs-listed kept taps 32 (generator_of g) (windows g.lfsr0 s32 g.lfsr1 ms) (windows g.nfsr0 b32 g.nfsr1 mb)
+  outputs-listed hs hb = bitwise.outputs-listed kept taps 32 (generator_of g) hs hb
 
-  pub lfsr_bits_listed : (s32 x : ℕ) → word 64 s32 ≡ drop 32 (word 64 g.lfsr0) ++ take 32 (word 64 g.lfsr1)
-      → word 32 (lfsr_bit (functions words) (window g.lfsr0 s32 g.lfsr1) x) ≡ listed 32 (lfsr_bit_at grain128 (generator_of g) (places (word 32 x)))
+  pub lfsr_bits_listed : {s : ℕ → ℕ} (x : ℕ) → Windows 32 97 (both g.lfsr0 g.lfsr1) s
+      → word 32 (lfsr_bit (functions words) s x) ≡ listed 32 (lfsr_bit_at grain128 (generator_of g) (places (word 32 x)))
   unfolding generator_of
-  lfsr_bits_listed s32 x ms = bitwise.lfsr_bits_listed kept taps 32 (generator_of g) x (windows g.lfsr0 s32 g.lfsr1 ms)
+  lfsr_bits_listed x hs = bitwise.lfsr_bits_listed kept taps 32 (generator_of g) x hs
 
-  pub nfsr_bits_listed : (b32 x : ℕ) → word 64 b32 ≡ drop 32 (word 64 g.nfsr0) ++ take 32 (word 64 g.nfsr1)
-      → word 32 (bit_xor (bit_xor (g.lfsr0 / 2 ^ 32) (F words (window g.nfsr0 b32 g.nfsr1))) x) ≡ listed 32 (nfsr_bit_at grain128 (generator_of g) (places (word 32 x)))
+  pub nfsr_bits_listed : {b : ℕ → ℕ} (x : ℕ) → Windows 32 97 (both g.nfsr0 g.nfsr1) b
+      → word 32 (bit_xor (bit_xor (g.lfsr0 / 2 ^ 32) (F words b)) x) ≡ listed 32 (nfsr_bit_at grain128 (generator_of g) (places (word 32 x)))
   unfolding generator_of
-  nfsr_bits_listed b32 x mb =
+  nfsr_bits_listed x hb =
       bitwise.nfsr_bits_listed kept taps 32 (generator_of g) (g.lfsr0 / 2 ^ 32) x
-      (λ i h. window-place (both g.lfsr0 g.lfsr1) g.lfsr0 0 0 32 i (first-places g.lfsr0 g.lfsr1) (omega arith) (omega arith) h) (windows g.nfsr0 b32 g.nfsr1 mb)
+      (λ i h. window-place (both g.lfsr0 g.lfsr1) g.lfsr0 0 0 32 i (first-places g.lfsr0 g.lfsr1) (omega arith) (omega arith) h) hb

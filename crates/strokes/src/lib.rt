@@ -31,24 +31,20 @@ pub fn run(r: Run, a: Adding, clocks: usize) -> Run
 {
     let mut now = r;
     let mut to_add = a;
-    let mut left = clocks;
-    while 32 < left {
+    // The strokes before the last, which may be shorter.
+    let before = clocks.saturating_sub(1) / 32;
+    for _ in 0..before {
         now = at_once(now, to_add, 32);
         to_add = added::left(to_add, 32);
-        left -= 32;
     }
-    at_once(now, to_add, left)
+    at_once(now, to_add, clocks - 32 * before)
 }
 
 // Whether two runs have the same words.
 fn same(a: Run, b: Run) -> bool
     ensures { (result ≡ true) ↔ (a ≡ b) }
 {
-    let g = a.registers;
-    let h = b.registers;
-    let lfsr = (g.lfsr0 ^ h.lfsr0) | (g.lfsr1 ^ h.lfsr1);
-    let nfsr = (g.nfsr0 ^ h.nfsr0) | (g.nfsr1 ^ h.nfsr1);
-    (lfsr | nfsr | (a.outputs ^ b.outputs)) == 0
+    a == b
 }
 
 // Whether this engine and the plain one end in the same words: they always do.

@@ -39,6 +39,19 @@ fn parted(r: Run) -> Streamed
     }
 }
 
+// The clocks of two strokes, all of whose pre-outputs fill the word. Like preoutput_word it is taken into the loops of its callers, where a
+// call would put the registers into memory.
+#[inline(always)]
+fn two_strokes(g: Registers) -> Run
+    ensures { Keystreams 1 64 (generator_of g) result.registers result.outputs }
+{
+    let half = stroke::plain_stroke(g);
+    Run {
+        registers: stroke::plain_stroke(half),
+        outputs: bits::slide(stroke::outputs(g), stroke::outputs(half) << 32, 32),
+    }
+}
+
 // The clocks of eight string bits.
 pub fn stream_byte(g: Registers) -> Streamed
     ensures { Streams 8 (generator_of g) result }
@@ -53,14 +66,11 @@ pub fn stream_byte(g: Registers) -> Streamed
 pub fn stream_word(g: Registers) -> Streamed
     ensures { Streams 32 (generator_of g) result }
 {
-    let half = stroke::plain_stroke(g);
-    parted(Run {
-        registers: stroke::plain_stroke(half),
-        outputs: bits::slide(stroke::outputs(g), stroke::outputs(half) << 32, 32),
-    })
+    parted(two_strokes(g))
 }
 
 // The clocks of 32 keystream bits where every pre-output is one.
+#[inline(always)]
 pub fn preoutput_word(g: Registers) -> Keystreamed
     ensures { Keystreams 1 32 (generator_of g) result.registers result.keystream }
 {
@@ -92,21 +102,14 @@ pub fn keystream_byte(g: Registers, taken: Taken) -> Keystreamed
     }
 }
 
-// The clocks of 32 keystream bits. It is written out, since what has one caller is compiled into that caller's loop.
+// The clocks of 32 keystream bits.
 pub fn keystream_word(g: Registers, taken: Taken) -> Keystreamed
     ensures { Keystreams (spacing taken) 32 (generator_of g) result.registers result.keystream }
 {
     match taken {
-        Taken::Every => Keystreamed {
-            registers: stroke::plain_stroke(g),
-            keystream: bits::slide(0, stroke::outputs(g) << 32, 32),
-        },
+        Taken::Every => preoutput_word(g),
         Taken::EverySecond => {
-            let half = stroke::plain_stroke(g);
-            let s = parted(Run {
-                registers: stroke::plain_stroke(half),
-                outputs: bits::slide(stroke::outputs(g), stroke::outputs(half) << 32, 32),
-            });
+            let s = parted(two_strokes(g));
             let registers = s.registers;
             Keystreamed {
                 registers,

@@ -7,31 +7,27 @@ ghost use Rattle.generators.specs.Strokes.{listed, output_at, lfsr_bit_at, nfsr_
 ghost use Rattle.preoutput.specs.Functions.{grain128};
 ghost use Rattle.preoutput.specs.Words.{generator_of};
 
-use crate::windows;
-use preoutput::Registers;
+use crate::windows::Windows;
+use preoutput::{Registers, taps};
 
 // The 32 pre-outputs to come, which are the lowest 32 bits.
 pub fn outputs(g: Registers) -> u64
     ensures { word 32 result ≡ listed 32 (output_at grain128 (generator_of g)) }
 {
-    let s32 = bits::slide(g.lfsr0, g.lfsr1, 32);
-    let b32 = bits::slide(g.nfsr0, g.nfsr1, 32);
-    windows::output(g.lfsr0, s32, g.lfsr1, g.nfsr0, b32, g.nfsr1)
+    taps::output(Windows::of(g.lfsr0, g.lfsr1), Windows::of(g.nfsr0, g.nfsr1))
 }
 
 // The new bits of 32 clocks, the lowest 32 of a word, and what is added to them likewise.
 fn lfsr_bits(g: Registers, added: u64) -> u64
     ensures { word 32 result ≡ listed 32 (lfsr_bit_at grain128 (generator_of g) (places (word 32 added))) }
 {
-    let s32 = bits::slide(g.lfsr0, g.lfsr1, 32);
-    windows::linear(g.lfsr0, s32, g.lfsr1) ^ added
+    taps::linear(Windows::of(g.lfsr0, g.lfsr1)) ^ added
 }
 
 fn nfsr_bits(g: Registers, added: u64) -> u64
     ensures { word 32 result ≡ listed 32 (nfsr_bit_at grain128 (generator_of g) (places (word 32 added))) }
 {
-    let b32 = bits::slide(g.nfsr0, g.nfsr1, 32);
-    (g.lfsr0 >> 32) ^ windows::nonlinear(g.nfsr0, b32, g.nfsr1) ^ added
+    (g.lfsr0 >> 32) ^ taps::nonlinear(Windows::of(g.nfsr0, g.nfsr1)) ^ added
 }
 
 // The registers after n clocks. To the new bits are added the first n of the 32 lowest bits of `to_lfsr` and of `to_nfsr`.

@@ -7,4 +7,4 @@ pub returns : goal.returns
 unfolding to_lfsr to_nfsr
 returns c =
     let a = c.args in
-    fills a.g a.added c.run.result c.run.ensures
+    fills a.g a.added c.run.result (rw c.begun.ensures at c.run.ensures)

@@ -3,6 +3,4 @@ use Rattle.strokes.proofs.WindowBits.{lfsr_bits_listed}
 use Rattle.strokes.proofs.stroke.lfsr_bits.Goals as goal
 
 pub returns : goal.returns
-returns c =
-    let s = c.args in
-    rw c.linear.ensures (lfsr_bits_listed s.g c.slide-s32.result s.added c.slide-s32.ensures)
+returns c = rw c.linear.ensures (lfsr_bits_listed c.args.g c.args.added c.of.ensures)

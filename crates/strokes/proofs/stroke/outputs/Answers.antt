@@ -3,5 +3,4 @@ use Rattle.strokes.proofs.WindowBits.{outputs-listed}
 use Rattle.strokes.proofs.stroke.outputs.Goals as goal
 
 pub returns : goal.returns
-returns c =
-    rw c.output.ensures (outputs-listed c.args.g c.slide-s32.result c.slide-b32.result c.slide-s32.ensures c.slide-b32.ensures)
+returns c = rw c.output.ensures (outputs-listed c.args.g c.of.ensures c.of-2.ensures)
