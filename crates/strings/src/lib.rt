@@ -50,15 +50,12 @@ fn crypt_words(
     requires { writes ≡ true → length s.now ≤ length out.old }
     ensures { CryptsAll edition writes sealing (state_of e) (take (length s.now / 4 * 4) s.now) out.old out.new result }
 {
-    let n = s.len() / 4;
     let mut now = e;
-    let mut i = 0;
-    while i < n {
+    for i in 0..s.len() / 4 {
         let at = i * 4;
         let c = engine::crypt_word(now, word_at(edition, s, at), sealing);
         put(edition, out, at, 4, c.word, writes);
         now = c.engine;
-        i += 1;
     }
     now
 }
@@ -77,12 +74,10 @@ fn crypt_rest(
     ensures { Continues edition writes sealing e result (take from s.now) s.now out.old out.new }
 {
     let mut now = e;
-    let mut i = from;
-    while i < s.len() {
+    for i in from..s.len() {
         let c = engine::crypt_byte(now, editions::ordered_byte(edition, s[i]), sealing);
         put(edition, out, i, 1, bits::wide(c.byte), writes);
         now = c.engine;
-        i += 1;
     }
     now
 }
@@ -137,10 +132,8 @@ fn add_words(edition: Edition, taken: Taken, g: Registers, s: &[u8], out: &mut [
     requires { length s.now ≤ length out.old }
     ensures { Adds edition (spacing taken) (generator_of g) (take (length s.now / 4 * 4) s.now) out.old out.new result }
 {
-    let n = s.len() / 4;
     let mut now = g;
-    let mut i = 0;
-    while i < n {
+    for i in 0..s.len() / 4 {
         let at = i * 4;
         let k = streams::keystream_word(now, taken);
         put(
@@ -152,7 +145,6 @@ fn add_words(edition: Edition, taken: Taken, g: Registers, s: &[u8], out: &mut [
             true,
         );
         now = k.registers;
-        i += 1;
     }
     now
 }
@@ -163,13 +155,11 @@ fn add_bytes(edition: Edition, taken: Taken, g: Registers, s: &[u8], out: &mut [
     ensures { Adds edition (spacing taken) (generator_of g) s.now out.old out.new result }
 {
     let mut now = g;
-    let mut i = 0;
-    while i < s.len() {
+    for i in 0..s.len() {
         let k = streams::keystream_byte(now, taken);
         let x = editions::ordered_byte(edition, s[i]);
         put(edition, out, i, 1, bits::wide(x) ^ k.keystream, true);
         now = k.registers;
-        i += 1;
     }
     now
 }
