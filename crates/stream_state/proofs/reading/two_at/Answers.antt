@@ -13,4 +13,4 @@ pub overflow_cast-result-2 : goal.overflow_cast-result-2
 overflow_cast-result-2 c = omega (arith, c.type_inv.state (c.args.at + 1))
 
 pub overflow_add-result-2 : goal.overflow_add-result-2
-overflow_add-result-2 c = omega (arith, c.type_inv.state (c.args.at + 1), c.shared_slice_known-1.given c.args.at)
+overflow_add-result-2 c = omega (arith, c.type_inv.state (c.args.at + 1), c.type_inv.state c.args.at)
