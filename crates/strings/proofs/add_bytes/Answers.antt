@@ -1,7 +1,6 @@
 -- `strings::add_bytes` meets its contract.
 use mathlib.Core.Path.{ap, ◌∙◌}
 use native.Mathlib.Omega.{arith}
-use lib.Dec.{lit≤}
 use lib.ListN.{drop}
 use lib.Seq.{take_all}
 use Rattle.bits.specs.Bytes.{word}
@@ -14,9 +13,6 @@ use Rattle.strings.proofs.add_bytes.Goals as goal
 
 pub loop-i-init : goal.loop-i-init
 loop-i-init c = adds_none _ _ _ _
-
-pub put-requires : goal.put-requires
-put-requires c = (lit≤ tt, λ w. omega (arith, c.requires))
 
 pub loop-i-preserved : goal.loop-i-preserved
 loop-i-preserved c =

@@ -2,7 +2,6 @@
 use mathlib.Core.Path.{◌≡◌}
 use Prim.Native.Nat.{◌*◌, ◌/◌}
 use native.Mathlib.Omega.{arith}
-use lib.Dec.{lit≤}
 use lib.ListN.{length, drop}
 use Rattle.machine.proofs.Bitwise.{bits-keystream}
 use Rattle.strings.proofs.OverBytes.{more_word}
@@ -11,9 +10,6 @@ use Rattle.strings.proofs.add_words.Goals as goal
 
 pub loop-i-init : goal.loop-i-init
 loop-i-init c = adds_none _ _ _ _
-
-pub put-requires : goal.put-requires
-put-requires c = (lit≤ tt, λ w. omega (arith, c.requires))
 
 pub loop-i-preserved : goal.loop-i-preserved
 loop-i-preserved c =

@@ -1,7 +1,6 @@
 -- `strings::crypt_rest` meets its contract.
 use mathlib.Core.Path.{ap, ◌∙◌}
 use native.Mathlib.Omega.{arith}
-use lib.Dec.{lit≤}
 use lib.ListN.{drop}
 use lib.Seq.{take_all}
 use Rattle.generators.proofs.Keystream.{more}
@@ -12,9 +11,6 @@ use Rattle.strings.proofs.crypt_rest.Goals as goal
 
 pub loop-i-init : goal.loop-i-init
 loop-i-init c = λ st lent h. h
-
-pub put-requires : goal.put-requires
-put-requires c = (lit≤ tt, λ w. omega (arith, c.requires.1 w))
 
 pub loop-i-preserved : goal.loop-i-preserved
 loop-i-preserved c =

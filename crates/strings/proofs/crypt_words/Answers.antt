@@ -2,7 +2,6 @@
 use mathlib.Core.Path.{◌≡◌}
 use Prim.Native.Nat.{◌*◌, ◌/◌}
 use native.Mathlib.Omega.{arith}
-use lib.Dec.{lit≤}
 use lib.ListN.{length, drop}
 use Rattle.strings.proofs.OverBytes.{more_word}
 use Rattle.strings.proofs.Writing.{crypts-none, crypts_piece, crypts-pieces}
@@ -10,9 +9,6 @@ use Rattle.strings.proofs.crypt_words.Goals as goal
 
 pub loop-i-init : goal.loop-i-init
 loop-i-init c = crypts-none _ _ _ _ _
-
-pub put-requires : goal.put-requires
-put-requires c = (lit≤ tt, λ w. omega (arith, c.requires w))
 
 pub loop-i-preserved : goal.loop-i-preserved
 loop-i-preserved c =
