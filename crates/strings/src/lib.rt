@@ -2,7 +2,6 @@
 #![tactic(auto)]
 
 ghost use Rattle.std.specs.Prelude.{◌≡◌, true, cond, ◌∷◌, [], ◌++◌, ◌+◌, ◌*◌, ◌/◌, ◌≤◌, length, take, drop};
-ghost use Rattle.bits.specs.Bytes.{word};
 ghost use Rattle.preoutput.specs.Words.{generator_of};
 ghost use Rattle.strokes.specs.Streams.{spacing};
 ghost use Rattle.machine.specs.Machine.{run, decipher};
@@ -17,15 +16,6 @@ use preoutput::Registers;
 use startup::editions;
 use strokes::streams;
 use strokes::streams::Taken;
-
-// Four bytes as a word.
-fn word_at(edition: Edition, s: &[u8], at: usize) -> u64
-    requires { at + 4 ≤ length s.now }
-    ensures { word 32 result ≡ bits_in edition (take 4 (drop at s.now)) }
-{
-    let end = at + 4;
-    editions::ordered(edition, bits::number(&s[at..end]))
-}
 
 // Writes the n lowest bytes of a word from place `at` on, or nothing.
 fn put(edition: Edition, out: &mut [u8], at: usize, n: usize, w: u64, writes: bool)
@@ -53,7 +43,7 @@ fn crypt_words(
     let mut now = e;
     for i in 0..s.len() / 4 {
         let at = i * 4;
-        let c = engine::crypt_word(now, word_at(edition, s, at), sealing);
+        let c = engine::crypt_word(now, editions::word_at::<4>(edition, s, at), sealing);
         put(edition, out, at, 4, c.word, writes);
         now = c.engine;
     }
@@ -141,7 +131,7 @@ fn add_words(edition: Edition, taken: Taken, g: Registers, s: &[u8], out: &mut [
             out,
             at,
             4,
-            word_at(edition, s, at) ^ k.keystream,
+            editions::word_at::<4>(edition, s, at) ^ k.keystream,
             true,
         );
         now = k.registers;
