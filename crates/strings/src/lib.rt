@@ -7,7 +7,7 @@ ghost use Rattle.strokes.specs.Streams.{spacing};
 ghost use Rattle.machine.specs.Machine.{run, decipher};
 ghost use Rattle.machine.specs.Engine.{state_of};
 ghost use Rattle.startup.specs.Editions.{bits_in};
-ghost use Rattle.strings.specs.Strings.{pasted, CryptsAll, Continues, with_keystream, Adds};
+ghost use Rattle.strings.specs.Strings.{Room, pasted, CryptsAll, Continues, with_keystream, Adds};
 
 use machine::edition::Edition;
 use machine::engine;
@@ -19,7 +19,7 @@ use strokes::streams::Taken;
 
 // Writes the n lowest bytes of a word from place `at` on, or nothing.
 fn put(edition: Edition, out: &mut [u8], at: usize, n: usize, w: u64, writes: bool)
-    requires { (n ≤ 8) × (writes ≡ true → at + n ≤ length out.old) }
+    requires { (n ≤ 8) × Room writes (at + n) out.old }
     ensures { out.new ≡ cond writes (pasted edition out.old at n w) out.old }
 {
     if writes {
@@ -37,7 +37,7 @@ fn crypt_words(
     sealing: bool,
     writes: bool,
 ) -> Engine
-    requires { writes ≡ true → length s.now ≤ length out.old }
+    requires { Room writes (length s.now) out.old }
     ensures { CryptsAll edition writes sealing (state_of e) (take (length s.now / 4 * 4) s.now) out.old out.new result }
 {
     let mut now = e;
@@ -60,7 +60,7 @@ fn crypt_rest(
     sealing: bool,
     writes: bool,
 ) -> Engine
-    requires { (from ≤ length s.now) × (writes ≡ true → length s.now ≤ length out.old) }
+    requires { (from ≤ length s.now) × Room writes (length s.now) out.old }
     ensures { Continues edition writes sealing e result (take from s.now) s.now out.old out.new }
 {
     let mut now = e;
@@ -74,7 +74,7 @@ fn crypt_rest(
 
 // A whole string. Where nothing is to be written, the output may be too short for it.
 fn crypt(e: Engine, s: &[u8], out: &mut [u8], sealing: bool, writes: bool) -> Engine
-    requires { writes ≡ true → length s.now ≤ length out.old }
+    requires { Room writes (length s.now) out.old }
     ensures { CryptsAll e.edition writes sealing (state_of e) s.now out.old out.new result }
 {
     let edition = e.edition;
@@ -94,16 +94,14 @@ pub fn absorb_byte(e: Engine, m: u8) -> Engine
 pub fn absorb_all(e: Engine, s: &[u8]) -> Engine
     ensures { state_of result ≡ run (state_of e) (bits_in e.edition s.now) }
 {
-    let mut none = [0u8; 1];
-    crypt(e, s, &mut none, true, false)
+    crypt(e, s, &mut [], true, false)
 }
 
 // The message that a ciphertext hides, which is handed to the machine alone.
 pub fn decipher_all(e: Engine, s: &[u8]) -> Engine
     ensures { state_of result ≡ run (state_of e) (decipher (state_of e) (bits_in e.edition s.now)) }
 {
-    let mut none = [0u8; 1];
-    crypt(e, s, &mut none, false, false)
+    crypt(e, s, &mut [], false, false)
 }
 
 // A message enciphered to the front of the output. Only the bytes that it has room for are taken.
