@@ -1,34 +1,25 @@
 -- Strings of zero bytes, byte by byte and whole.
 -- Assumes nothing.
 use mathlib.Core.Path.{◌≡◌, refl, sym, ap, ap₂, ◌∙◌}
-use mathlib.Core.Logic.{◌≢◌}
-use mathlib.Core.Bool.{Bool, true, false, true≢false, ◌&&◌}
+use mathlib.Core.Bool.{Bool, true, false, true≢false, not, ◌&&◌, ◌||◌}
 use mathlib.Core.List.{List, [], ◌∷◌, ◌++◌}
-use Prim.Native.Nat.{ℕ, zero, suc, ◌+◌, ◌≤◌, ◌<◌}
-use native.Mathlib.Omega.{arith}
-use borrow.Author.Tests.{eqb-true, eq-eqb, ne_eqb}
+use Prim.Native.Nat.{ℕ, zero, suc}
+use borrow.Author.Tests.{eqb-true}
 use lib.Dec.{eqb}
-use lib.ListN.{length, get_or, drop, replicate, drop_of_length-le}
-use lib.Seq.{drop-cons, drop-nil}
+use lib.ListN.{length, drop, replicate}
+use lib.Seq.{drop-nil}
+use Rattle.std.specs.List.{list_any}
 use Rattle.frame_checks.specs.Layout.{zero_bytes}
 
--- Looked for one place after the other.
-module _ (s : List ℕ) (i : ℕ) where
-  at : i < length s → (b : Bool) → eqb (get_or s i 0) 0 ≡ b → zero_bytes (drop i s) ≡ (b && zero_bytes (drop (suc i) s))
-  unfolding zero_bytes
-  at h b e = ap zero_bytes (drop-cons s i 0 h) ∙ ap (λ (t : Bool). t && zero_bytes (drop (suc i) s)) e
-
-  pub zero_on : i < length s → get_or s i 0 ≡ 0 → zero_bytes (drop i s) ≡ zero_bytes (drop (i + 1) s)
-  zero_on h e =
-      let next : suc i ≡ i + 1 = omega arith in
-      at h true (eq-eqb (get_or s i 0) 0 e) ∙ ap (λ (k : ℕ). zero_bytes (drop k s)) next
-
-  pub zero-not : i < length s → get_or s i 0 ≢ 0 → zero_bytes (drop i s) ≡ false
-  zero-not h ne = at h false (ne_eqb (get_or s i 0) 0 ne)
-
-  pub zero_end : length s ≤ i → zero_bytes (drop i s) ≡ true
-  unfolding zero_bytes
-  zero_end h = ap zero_bytes (drop_of_length-le s h)
+-- Looked for one byte after the other.
+pub any_lem : (s : List ℕ) → list_any (λ b. not (eqb b 0)) s ≡ not (zero_bytes s)
+unfolding zero_bytes
+any_lem [] = refl
+any_lem (b ∷ s) = go (eqb b 0) (any_lem s)
+  where
+    go : (z : Bool) → list_any (λ b. not (eqb b 0)) s ≡ not (zero_bytes s) → (not z || list_any (λ b. not (eqb b 0)) s) ≡ not (z && zero_bytes s)
+    go true rest = rest
+    go false rest = refl
 
 -- They are zeros as many as there are bytes.
 pub zero_bytes_lem : (s : List ℕ) → zero_bytes s ≡ true → s ≡ replicate (length s) 0

@@ -22,20 +22,14 @@ pub fn field_size(message: &[u8]) -> usize
 pub fn announced(field: &[u8]) -> u8
     ensures { result ≡ layout.announced field.now }
 {
-    if field.len() == 0 {
-        return 0;
-    }
-    field[0]
+    field.first().copied().unwrap_or(0)
 }
 
 // Whether the code is over 15, or the data is not of the coded length.
 pub fn not_coded(code: u32, field: &[u8]) -> bool
     ensures { result ≡ not_coded code field.now }
 {
-    if 15 < code {
-        return true;
-    }
-    field.len() != length_codes::coded_length(code)
+    15 < code || field.len() != length_codes::coded_length(code)
 }
 
 // Whether there is no M, M is over 55, or the code is not the smallest for M + 9.
@@ -43,25 +37,13 @@ pub fn wrong_length(code: u32, field: &[u8]) -> bool
     ensures { result ≡ wrong_length code field.now }
 {
     let m = announced(field);
-    if field.len() == 0 {
-        return true;
-    }
-    if 55 < m {
-        return true;
-    }
-    code != length_codes::length_code(m as usize + 9)
+    field.is_empty() || 55 < m || code != length_codes::length_code(m as usize + 9)
 }
 
 // Whether a byte behind the tag is not zero.
 pub fn filler_not_zero(field: &[u8]) -> bool
     ensures { result ≡ filler_not_zero field.now }
 {
-    let mut i = announced(field) as usize + 9;
-    while i < field.len() {
-        if field[i] != 0 {
-            return true;
-        }
-        i += 1;
-    }
-    false
+    let start = announced(field) as usize + 9;
+    field.iter().skip(start).any(|b| *b != 0)
 }

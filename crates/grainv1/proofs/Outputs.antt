@@ -1,9 +1,9 @@
 -- The outputs of plain clocks on words, sixteen at a stroke and 64 in a word of keystream.
 -- Assumes nothing.
-use mathlib.Core.Path.{◌≡◌, refl, sym, ap, ◌∙◌}
+use mathlib.Core.Path.{◌≡◌, sym, ap, ◌∙◌}
 use mathlib.Core.Bool.{Bool}
 use mathlib.Core.List.{List, [], ◌++◌}
-use Prim.Native.Nat.{ℕ, ◌-◌, ◌*◌, ◌<◌, ◌≤◌}
+use Prim.Native.Nat.{ℕ, ◌+◌, ◌*◌}
 use native.Mathlib.Omega.{arith}
 use lib.Dec.{lit<, lit≤}
 use lib.ListN.{drop}
@@ -15,7 +15,7 @@ use Rattle.generators.specs.Generator.{Generator, plain, every}
 use Rattle.generators.specs.Running.{Running, clocks, given}
 use Rattle.generators.specs.Strokes.{listed, output_at}
 use Rattle.generators.proofs.ClocksStroked.{clocks-every, listed-every}
-use Rattle.generators.proofs.Runs.{clocks_less, clocks-none, ways}
+use Rattle.generators.proofs.Runs.{clocks-add, ways}
 use Rattle.generators.proofs.Spaced.{length-every}
 use Rattle.grainv1.specs.declared.registers.Registers.{Registers}
 use Rattle.grainv1.specs.declared.registers.Run.{Run}
@@ -45,17 +45,9 @@ next-words r s y ey eg eo = λ i. record {
     outputs : word 16 y ≡ every grainv1 1 16 g
     outputs = ey ∙ listed-every grainv1 80 65 taps (lit< tt) 16 g (lit≤ tt) (words-sized r.registers)
 
--- With sixteen for each turn that is left, the same run.
-abbrev pub Left : (whole : Running) → Running → (left : ℕ) → Type 0
-Left whole r left = ran (left * 16) r ≡ whole
-
-pub left_less : {whole : Running} (r : Running) (left : ℕ) {r' : Running} → 0 < left → r' ≡ ran 16 r → Left whole r left → Left whole r' (left - 1)
-left_less r left {r'} pos e all =
-    let less : left * 16 - 16 ≡ (left - 1) * 16 = omega arith in
-    ap (λ (n : ℕ). ran n r') (sym less) ∙ clocks_less grainv1 (left * 16) 16 (given []) (given []) r (omega arith) e refl refl all
-
-pub left_none : {whole : Running} (r : Running) (left : ℕ) → left ≤ 0 → Left whole r left → r ≡ whole
-left_none r left none all = clocks-none grainv1 (left * 16) (given []) (given []) r (omega arith) all
+-- Sixteen more, behind those of n turns.
+pub ran_more : (n : ℕ) (r : Running) → ran 16 (ran (n * 16) r) ≡ ran ((n + 1) * 16) r
+ran_more n r = sym (clocks-add grainv1 (n * 16) 16 (given []) (given []) r) ∙ ap (λ (k : ℕ). ran k r) (omega arith)
 
 -- All 64, from a run that began with no outputs.
 pub keystreams : (g : Registers) (r : Run) → running_of r ≡ ran 64 (running_of record { registers = g; outputs = 0 }) → Keystreams (generator_of g) r

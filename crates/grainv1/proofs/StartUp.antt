@@ -3,7 +3,7 @@
 use mathlib.Core.Path.{◌≡◌, refl, sym, ap, ap₂, ◌∙◌}
 use mathlib.Core.Bool.{Bool}
 use mathlib.Core.List.{List, ◌++◌}
-use Prim.Native.Nat.{ℕ, zero, suc, ◌+◌, ◌-◌, ◌*◌, ◌%◌, ◌^◌, ◌<◌, ◌≤◌}
+use Prim.Native.Nat.{ℕ, ◌+◌, ◌*◌, ◌%◌, ◌^◌}
 use native.Mathlib.Omega.{arith}
 use lib.ListN.{length, take, drop, length-take, length-drop, take-append-drop}
 use Rattle.bits.specs.Bytes.{word, value, bits}
@@ -18,28 +18,18 @@ use Rattle.grainv1.specs.StartUp.{loaded, started, initialised}
 use Rattle.grainv1.specs.Words.{register, generator_of}
 
 -- Key and nonce, and sixteen ones, on words.
-pub loaded-words : (k0 k1 n : ℕ) → generator_of record { lfsr0 = n; lfsr1 = 65535; nfsr0 = k0; nfsr1 = k1 } ≡ loaded (register k0 k1) (word 64 n)
+loaded-words : (k0 k1 n : ℕ) → generator_of record { lfsr0 = n; lfsr1 = 65535; nfsr0 = k0; nfsr1 = k1 } ≡ loaded (register k0 k1) (word 64 n)
 unfolding generator_of loaded word
 loaded-words k0 k1 n = refl
 
--- The clocks that are left come from those loaded to those started.
-abbrev pub Left : (key nonce : List Bool) → Generator Bool → (left : ℕ) → Type 0
-Left key nonce g left = times (left * 16) (fed_back grainv1) g ≡ started key nonce
+-- From there the clocks of start-up.
+pub started-words : (k0 k1 n : ℕ) → times 160 (fed_back grainv1) (generator_of record { lfsr0 = n; lfsr1 = 65535; nfsr0 = k0; nfsr1 = k1 }) ≡ started (register k0 k1) (word 64 n)
+unfolding started
+started-words k0 k1 n = ap (times 160 (fed_back grainv1)) (loaded-words k0 k1 n)
 
-module _ (key nonce : List Bool) where
-  pub left_all : {g : Generator Bool} → g ≡ loaded key nonce → Left key nonce g 10
-  unfolding started
-  left_all e = ap (times 160 (fed_back grainv1)) e
-
-  pub left_less : (g : Generator Bool) (left : ℕ) {g' : Generator Bool} → 0 < left → g' ≡ times 16 (fed_back grainv1) g → Left key nonce g left → Left key nonce g' (left - 1)
-  left_less g left pos e all =
-      let less : 16 + (left - 1) * 16 ≡ left * 16 = omega arith in
-      ap (times ((left - 1) * 16) (fed_back grainv1)) e ∙ times-add (fed_back grainv1) 16 ((left - 1) * 16) g ∙ ap (λ (n : ℕ). times n (fed_back grainv1) g) less ∙ all
-
-  pub left_none : (g : Generator Bool) (left : ℕ) → left ≤ 0 → Left key nonce g left → g ≡ started key nonce
-  unfolding times
-  left_none g zero h all = all
-  left_none g (suc n) h all = absurd (omega arith)
+-- Sixteen clocks more, behind those of n turns.
+pub fed_back_more : (n : ℕ) (g : Generator Bool) → times 16 (fed_back grainv1) (times (n * 16) (fed_back grainv1) g) ≡ times ((n + 1) * 16) (fed_back grainv1) g
+fed_back_more n g = times-add (fed_back grainv1) (n * 16) 16 g ∙ ap (λ (k : ℕ). times k (fed_back grainv1) g) (omega arith)
 
 -- From the bytes of key and nonce.
 pub initialised-words : (key nonce : List ℕ) (k0 k1 n : ℕ) {g : Generator Bool} → length key ≡ key_size → length nonce ≡ nonce_size

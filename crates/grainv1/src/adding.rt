@@ -1,5 +1,5 @@
 // A message with the keystream added.
-ghost use Rattle.std.specs.Prelude.{◌≡◌, cond, ◌++◌, ◌*◌, ◌≤◌, ◌<◌, ltb, length, take, drop};
+ghost use Rattle.std.specs.Prelude.{◌≡◌, ◌++◌, ◌*◌, ◌≤◌, ◌<◌, length, take, drop};
 ghost use Rattle.bits.specs.Bytes.{word, flip};
 ghost use Rattle.generators.specs.Keystream.{added};
 ghost use Rattle.grainv1.specs.Functions.{grainv1};
@@ -7,13 +7,6 @@ ghost use Rattle.grainv1.specs.Words.{generator_of};
 
 use crate::keystream;
 use crate::registers::Registers;
-
-// How many bytes of those that are left a word of keystream is for.
-fn piece(left: usize) -> usize
-    ensures { result ≡ cond (ltb left 8) left 8 }
-{
-    if left < 8 { left } else { 8 }
-}
 
 // One to eight bytes with the first places of a word added, one to each bit.
 fn add_places(places: u64, s: &[u8], out: &mut [u8])
@@ -30,12 +23,11 @@ pub fn add(g: Registers, s: &[u8], out: &mut [u8])
     ensures { out.new ≡ added grainv1 flip 1 (generator_of g) s.now ++ drop (length s.now) out.old }
 {
     let mut now = g;
-    let mut at = 0;
-    while at < s.len() {
-        let end = at + piece(s.len() - at);
+    for (i, piece) in s.chunks(8).enumerate() {
+        let at = 8 * i;
+        let end = at + piece.len();
         let k = keystream::word(now);
-        add_places(k.outputs, &s[at..end], &mut out[at..end]);
+        add_places(k.outputs, piece, &mut out[at..end]);
         now = k.registers;
-        at = end;
     }
 }

@@ -27,10 +27,8 @@ pub fn word(g: Registers) -> Run
         registers: g,
         outputs: 0,
     };
-    let mut left: usize = 4;
-    while 0 < left {
+    for _ in 0..4u8 {
         now = next(now);
-        left -= 1;
     }
     now
 }

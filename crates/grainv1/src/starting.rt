@@ -17,10 +17,8 @@ pub fn start(key0: u64, key1: u64, nonce: u64) -> Registers
         nfsr0: key0,
         nfsr1: key1,
     };
-    let mut left: usize = 10;
-    while 0 < left {
+    for _ in 0..10u8 {
         now = stroke::fed_back(now);
-        left -= 1;
     }
     now
 }

@@ -32,9 +32,9 @@ pub enum Held {
 pub fn read(limit: usize, state: &[u8]) -> Held
     ensures { held_of result ≡ held limit state.now }
 {
-    if state.len() != 64 {
+    let Some(state) = state.as_array::<64>() else {
         return Held::Unsound;
-    }
+    };
     let edition = state[56] as u32;
     let counts = reading::counts(state);
     let occurs = counts::can_occur(limit, counts);

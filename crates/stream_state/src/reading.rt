@@ -2,7 +2,6 @@
 ghost use Rattle.std.specs.Prelude.{◌≡◌, ◌+◌, ◌≤◌, length, take, drop};
 ghost use Rattle.bits.specs.Bytes.{word, bits, same};
 ghost use Rattle.machine.specs.Engine.{state_of};
-ghost use Rattle.stream_checks.specs.Rows.{state_size};
 ghost use Rattle.stream_state.specs.Layout.{two_at, machine_at, counts_at, spare};
 
 use authenticator::Tagger;
@@ -29,8 +28,7 @@ fn two_at(state: &[u8], at: usize) -> u16
 }
 
 // The machine of a state.
-pub fn machine(edition: Edition, state: &[u8]) -> Engine
-    requires { length state.now ≡ state_size }
+pub fn machine(edition: Edition, state: &[u8; 64]) -> Engine
     ensures { state_of result ≡ machine_at edition state.now }
 {
     Engine {
@@ -49,8 +47,7 @@ pub fn machine(edition: Edition, state: &[u8]) -> Engine
 }
 
 // The counts of a state.
-pub fn counts(state: &[u8]) -> Counts
-    requires { length state.now ≡ state_size }
+pub fn counts(state: &[u8; 64]) -> Counts
     ensures { result ≡ counts_at state.now }
 {
     Counts {
@@ -63,8 +60,7 @@ pub fn counts(state: &[u8]) -> Counts
 }
 
 // Whether the spare bytes are zero.
-pub fn spare_is_zero(state: &[u8]) -> bool
-    requires { length state.now ≡ state_size }
+pub fn spare_is_zero(state: &[u8; 64]) -> bool
     ensures { result ≡ same (drop 57 state.now) spare }
 {
     bits::number(&state[57..]) == 0

@@ -31,11 +31,9 @@ pub fn store(words: &[u64], state: &mut [u8])
     requires { length state.old ≡ 8 * length words.now }
     ensures { state.new ≡ spelled_words words.now }
 {
-    let mut i = 0;
-    while i < words.len() {
+    for (i, w) in words.iter().enumerate() {
         let at = i * 8;
         let end = at + 8;
-        bits::spell(words[i], &mut state[at..end]);
-        i += 1;
+        bits::spell(*w, &mut state[at..end]);
     }
 }

@@ -1,5 +1,5 @@
 -- Byte strings with keystream added, in an edition's order of bits, and the output that they are written to.
-use Rattle.std.specs.Prelude.{◌≡◌, Bool, cond, List, ◌++◌, ℕ, ◌*◌, length, take, drop}
+use Rattle.std.specs.Prelude.{◌≡◌, Bool, true, cond, List, ◌++◌, ℕ, ◌*◌, ◌≤◌, length, take, drop}
 use Rattle.bits.specs.Bytes.{word}
 use Rattle.bits.specs.Times.{times}
 use Rattle.generators.specs.Generator.{Generator, plain}
@@ -12,6 +12,10 @@ use Rattle.machine.specs.declared.engine.Engine.{Engine}
 use Rattle.machine.specs.Machine.{State, run, crypt}
 use Rattle.machine.specs.Engine.{state_of}
 use Rattle.startup.specs.Editions.{bits_in, bytes_in, flip_in}
+
+-- Room for n bytes, if they are written.
+abbrev pub Room : (writes : Bool) → (n : ℕ) → (out : List ℕ) → Type 0
+Room writes n out = writes ≡ true → n ≤ length out
 
 -- A string with its keystream added, at the front of the output if it is written, and the machine after the message.
 pub record CryptsAll (edition : Edition) (writes sealing : Bool) (st : State) (s lent output : List ℕ) (r : Engine) : Type 0 where

@@ -2,13 +2,12 @@
 #![tactic(auto)]
 
 ghost use Rattle.std.specs.Prelude.{◌≡◌, true, cond, ◌∷◌, [], ◌++◌, ◌+◌, ◌*◌, ◌/◌, ◌≤◌, length, take, drop};
-ghost use Rattle.bits.specs.Bytes.{word};
 ghost use Rattle.preoutput.specs.Words.{generator_of};
 ghost use Rattle.strokes.specs.Streams.{spacing};
 ghost use Rattle.machine.specs.Machine.{run, decipher};
 ghost use Rattle.machine.specs.Engine.{state_of};
 ghost use Rattle.startup.specs.Editions.{bits_in};
-ghost use Rattle.strings.specs.Strings.{pasted, CryptsAll, Continues, with_keystream, Adds};
+ghost use Rattle.strings.specs.Strings.{Room, pasted, CryptsAll, Continues, with_keystream, Adds};
 
 use machine::edition::Edition;
 use machine::engine;
@@ -18,18 +17,9 @@ use startup::editions;
 use strokes::streams;
 use strokes::streams::Taken;
 
-// Four bytes as a word.
-fn word_at(edition: Edition, s: &[u8], at: usize) -> u64
-    requires { at + 4 ≤ length s.now }
-    ensures { word 32 result ≡ bits_in edition (take 4 (drop at s.now)) }
-{
-    let end = at + 4;
-    editions::ordered(edition, bits::number(&s[at..end]))
-}
-
 // Writes the n lowest bytes of a word from place `at` on, or nothing.
 fn put(edition: Edition, out: &mut [u8], at: usize, n: usize, w: u64, writes: bool)
-    requires { (n ≤ 8) × (writes ≡ true → at + n ≤ length out.old) }
+    requires { (n ≤ 8) × Room writes (at + n) out.old }
     ensures { out.new ≡ cond writes (pasted edition out.old at n w) out.old }
 {
     if writes {
@@ -47,18 +37,15 @@ fn crypt_words(
     sealing: bool,
     writes: bool,
 ) -> Engine
-    requires { writes ≡ true → length s.now ≤ length out.old }
+    requires { Room writes (length s.now) out.old }
     ensures { CryptsAll edition writes sealing (state_of e) (take (length s.now / 4 * 4) s.now) out.old out.new result }
 {
-    let n = s.len() / 4;
     let mut now = e;
-    let mut i = 0;
-    while i < n {
+    for i in 0..s.len() / 4 {
         let at = i * 4;
-        let c = engine::crypt_word(now, word_at(edition, s, at), sealing);
+        let c = engine::crypt_word(now, editions::word_at::<4>(edition, s, at), sealing);
         put(edition, out, at, 4, c.word, writes);
         now = c.engine;
-        i += 1;
     }
     now
 }
@@ -73,23 +60,21 @@ fn crypt_rest(
     sealing: bool,
     writes: bool,
 ) -> Engine
-    requires { (from ≤ length s.now) × (writes ≡ true → length s.now ≤ length out.old) }
+    requires { (from ≤ length s.now) × Room writes (length s.now) out.old }
     ensures { Continues edition writes sealing e result (take from s.now) s.now out.old out.new }
 {
     let mut now = e;
-    let mut i = from;
-    while i < s.len() {
+    for i in from..s.len() {
         let c = engine::crypt_byte(now, editions::ordered_byte(edition, s[i]), sealing);
         put(edition, out, i, 1, bits::wide(c.byte), writes);
         now = c.engine;
-        i += 1;
     }
     now
 }
 
 // A whole string. Where nothing is to be written, the output may be too short for it.
 fn crypt(e: Engine, s: &[u8], out: &mut [u8], sealing: bool, writes: bool) -> Engine
-    requires { writes ≡ true → length s.now ≤ length out.old }
+    requires { Room writes (length s.now) out.old }
     ensures { CryptsAll e.edition writes sealing (state_of e) s.now out.old out.new result }
 {
     let edition = e.edition;
@@ -109,16 +94,14 @@ pub fn absorb_byte(e: Engine, m: u8) -> Engine
 pub fn absorb_all(e: Engine, s: &[u8]) -> Engine
     ensures { state_of result ≡ run (state_of e) (bits_in e.edition s.now) }
 {
-    let mut none = [0u8; 1];
-    crypt(e, s, &mut none, true, false)
+    crypt(e, s, &mut [], true, false)
 }
 
 // The message that a ciphertext hides, which is handed to the machine alone.
 pub fn decipher_all(e: Engine, s: &[u8]) -> Engine
     ensures { state_of result ≡ run (state_of e) (decipher (state_of e) (bits_in e.edition s.now)) }
 {
-    let mut none = [0u8; 1];
-    crypt(e, s, &mut none, false, false)
+    crypt(e, s, &mut [], false, false)
 }
 
 // A message enciphered to the front of the output. Only the bytes that it has room for are taken.
@@ -137,10 +120,8 @@ fn add_words(edition: Edition, taken: Taken, g: Registers, s: &[u8], out: &mut [
     requires { length s.now ≤ length out.old }
     ensures { Adds edition (spacing taken) (generator_of g) (take (length s.now / 4 * 4) s.now) out.old out.new result }
 {
-    let n = s.len() / 4;
     let mut now = g;
-    let mut i = 0;
-    while i < n {
+    for i in 0..s.len() / 4 {
         let at = i * 4;
         let k = streams::keystream_word(now, taken);
         put(
@@ -148,11 +129,10 @@ fn add_words(edition: Edition, taken: Taken, g: Registers, s: &[u8], out: &mut [
             out,
             at,
             4,
-            word_at(edition, s, at) ^ k.keystream,
+            editions::word_at::<4>(edition, s, at) ^ k.keystream,
             true,
         );
         now = k.registers;
-        i += 1;
     }
     now
 }
@@ -163,13 +143,11 @@ fn add_bytes(edition: Edition, taken: Taken, g: Registers, s: &[u8], out: &mut [
     ensures { Adds edition (spacing taken) (generator_of g) s.now out.old out.new result }
 {
     let mut now = g;
-    let mut i = 0;
-    while i < s.len() {
+    for i in 0..s.len() {
         let k = streams::keystream_byte(now, taken);
         let x = editions::ordered_byte(edition, s[i]);
         put(edition, out, i, 1, bits::wide(x) ^ k.keystream, true);
         now = k.registers;
-        i += 1;
     }
     now
 }

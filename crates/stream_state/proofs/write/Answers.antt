@@ -1,6 +1,6 @@
 -- `stream_state::write` meets its contract.
-use mathlib.Core.Path.{refl, ◌∙◌}
-use borrow.Author.Tests.{eq-eqb, ne_eqb}
+use mathlib.Core.Path.{◌∙◌}
+use borrow.Author.Tests.{eq-eqb}
 use lib.ListN.{length}
 use Rattle.stream_checks.specs.Rows.{state_size}
 use Rattle.stream_state.proofs.Spelled.{stream_words}
@@ -11,6 +11,3 @@ returns-then-state-eq64 c =
     let a = c.args in
     rw (eq-eqb (length a.state.now) state_size c.if-state-eq64.true)
     (c.store.ensures ∙ stream_words a.x c.counts_word.result c.edition_word.result c.counts_word.ensures c.edition_word.ensures)
-
-pub returns-else-state-eq64 : goal.returns-else-state-eq64
-returns-else-state-eq64 c = rw (ne_eqb (length c.args.state.now) state_size c.if-state-eq64.false) refl

@@ -1,8 +1,7 @@
 -- `strings::add_words` meets its contract.
-use mathlib.Core.Path.{◌≡◌, refl}
+use mathlib.Core.Path.{◌≡◌}
 use Prim.Native.Nat.{◌*◌, ◌/◌}
 use native.Mathlib.Omega.{arith}
-use lib.Dec.{lit≤}
 use lib.ListN.{length, drop}
 use Rattle.machine.proofs.Bitwise.{bits-keystream}
 use Rattle.strings.proofs.OverBytes.{more_word}
@@ -10,10 +9,7 @@ use Rattle.strings.proofs.Writing.{adds-pieces, adds_piece, adds_none}
 use Rattle.strings.proofs.add_words.Goals as goal
 
 pub loop-i-init : goal.loop-i-init
-loop-i-init c = (omega arith, refl, adds_none _ _ _ _)
-
-pub put-requires : goal.put-requires
-put-requires c = (lit≤ tt, λ w. omega (arith, c.requires))
+loop-i-init c = adds_none _ _ _ _
 
 pub loop-i-preserved : goal.loop-i-preserved
 loop-i-preserved c =
@@ -22,17 +18,11 @@ loop-i-preserved c =
     let a = c.args in
     let s = a.s.now in
     let at = l.i * 4 in
-    let piece = adds_piece a.edition s at 4 c.word_at.result (omega arith) c.word_at.ensures (drop at l.out) k.result.keystream (bits-keystream 32 (omega arith) k.ensures) k.ensures.generator in (
-      omega arith,
-      omega (arith, c.put.auto),
-      adds-pieces a.edition (more_word s l.i (omega arith)) l.invariant.2 piece c.put.ensures,
-    )
-
-pub shape_of-out : goal.shape_of-out
-shape_of-out c = c.loop-i.invariant.1
+    let piece = adds_piece a.edition s at 4 c.word_at.result (omega arith) c.word_at.ensures (drop at l.out) k.result.keystream (bits-keystream 32 (omega arith) k.ensures) k.ensures.generator in
+    adds-pieces a.edition (more_word s l.i (omega arith)) l.invariant piece c.put.ensures
 
 pub returns : goal.returns
 returns c =
     let l = c.loop-i in
     let done : l.i ≡ length c.args.s.now / 4 = omega arith in
-    rw done at l.invariant.2
+    rw done at l.invariant

@@ -1,14 +1,10 @@
 -- `strings::add_words` meets its contract.
-use mathlib.Core.Path.{◌≡◌}
-use Prim.Native.Nat.{◌-◌, ◌*◌, ◌≤◌}
-use lib.ListN.{length, take}
+use Prim.Native.Nat.{◌*◌}
+use lib.ListN.{take}
 use Rattle.preoutput.specs.Words.{generator_of}
 use Rattle.strokes.specs.Streams.{spacing}
 use Rattle.strings.specs.Strings.{Adds}
 use Rattle.strings.proofs.add_words.Given as goal
 
 abbrev pub invariant-loop-i : goal.invariant-loop-i
-invariant-loop-i l = (l.i ≤ l.n) × (length l.out ≡ length l.initial.out) × Adds l.edition (spacing l.taken) (generator_of l.initial.now) (take (l.i * 4) l.s) l.initial.out l.out l.now
-
-abbrev pub decreases-loop-i : goal.decreases-loop-i
-decreases-loop-i l = l.n - l.i
+invariant-loop-i l = Adds l.edition (spacing l.taken) (generator_of l.initial.now) (take (l.i * 4) l.s) l.initial.out l.out l.now

@@ -1,7 +1,6 @@
 -- `strings::crypt_rest` meets its contract.
-use mathlib.Core.Path.{refl, ap, ◌∙◌}
+use mathlib.Core.Path.{ap, ◌∙◌}
 use native.Mathlib.Omega.{arith}
-use lib.Dec.{lit≤}
 use lib.ListN.{drop}
 use lib.Seq.{take_all}
 use Rattle.generators.proofs.Keystream.{more}
@@ -11,10 +10,7 @@ use Rattle.strings.proofs.Writing.{crypts_piece, crypts-pieces}
 use Rattle.strings.proofs.crypt_rest.Goals as goal
 
 pub loop-i-init : goal.loop-i-init
-loop-i-init c = (omega (arith, c.requires.0), refl, λ st lent h. h)
-
-pub put-requires : goal.put-requires
-put-requires c = (lit≤ tt, λ w. omega (arith, c.requires.1 w))
+loop-i-init c = λ st lent h. h
 
 pub loop-i-preserved : goal.loop-i-preserved
 loop-i-preserved c =
@@ -23,16 +19,10 @@ loop-i-preserved c =
     let s = a.s.now in
     let i = l.i in
     let byte = c.ordered_byte.ensures ∙ ap (bits_in a.edition) (byte_piece s i c.loop-i-test.true) in
-    let piece = crypts_piece a.edition s i 1 c.ordered_byte.result (omega arith) byte (drop i l.out) c.crypt_byte-c.ensures in (
-      omega arith,
-      omega (arith, c.put.auto),
-      λ st lent h. crypts-pieces a.edition (more s i 1 (omega arith)) (l.invariant.2 st lent h) piece (rw c.wide.ensures at c.put.ensures),
-    )
-
-pub shape_of-out : goal.shape_of-out
-shape_of-out c = c.loop-i.invariant.1
+    let piece = crypts_piece a.edition s i 1 c.ordered_byte.result (omega arith) byte (drop i l.out) c.crypt_byte-c.ensures in
+    λ st lent h. crypts-pieces a.edition (more s i 1 (omega arith)) (l.invariant st lent h) piece (rw c.wide.ensures at c.put.ensures)
 
 pub returns : goal.returns
 returns c =
     let l = c.loop-i in
-    rw (take_all l.i c.args.s.now (omega arith)) at l.invariant.2
+    rw (take_all l.i c.args.s.now (omega arith)) at l.invariant

@@ -1,15 +1,18 @@
 -- `grainv1::keystream::word` meets its contract.
+use mathlib.Core.Path.{◌≡◌, refl, ap, ◌∙◌}
 use native.Mathlib.Omega.{arith}
-use Rattle.grainv1.specs.Words.{running_of}
-use Rattle.grainv1.proofs.Outputs.{left_less, left_none, keystreams}
+use Rattle.generators.specs.Running.{clocks}
+use Rattle.grainv1.proofs.Outputs.{ran, ran_more, keystreams}
 use Rattle.grainv1.proofs.keystream.word.Goals as goal
 
-pub loop-left-preserved : goal.loop-left-preserved
-loop-left-preserved c =
-    let l = c.loop-left in
-    left_less (running_of l.now) l.left (omega arith) c.next-now.ensures l.invariant
+pub loop-init : goal.loop-init
+unfolding clocks
+loop-init c = refl
+
+pub loop-preserved : goal.loop-preserved
+loop-preserved c = c.next-now.ensures ∙ ap (ran 16) c.loop.invariant ∙ ran_more c.loop.counter _
 
 pub returns : goal.returns
 returns c =
-    let l = c.loop-left in
-    keystreams c.args.g l.now (left_none (running_of l.now) l.left (omega arith) l.invariant)
+    let done : c.loop.counter ≡ 4 = omega arith in
+    keystreams c.args.g c.loop.now (rw done at c.loop.invariant)

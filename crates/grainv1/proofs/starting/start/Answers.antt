@@ -1,18 +1,20 @@
 -- `grainv1::starting::start` meets its contract.
+use mathlib.Core.Path.{◌≡◌, refl, ap, ◌∙◌}
 use native.Mathlib.Omega.{arith}
-use Rattle.grainv1.specs.Words.{generator_of}
-use Rattle.grainv1.proofs.StartUp.{loaded-words, left_all, left_less, left_none}
+use Rattle.bits.specs.Times.{times}
+use Rattle.generators.specs.Generator.{fed_back}
+use Rattle.grainv1.specs.Functions.{grainv1}
+use Rattle.grainv1.proofs.StartUp.{started-words, fed_back_more}
 use Rattle.grainv1.proofs.starting.start.Goals as goal
 
-pub loop-left-init : goal.loop-left-init
-loop-left-init c = left_all _ _ (loaded-words c.args.key0 c.args.key1 c.args.nonce)
+pub loop-init : goal.loop-init
+unfolding times
+loop-init c = refl
 
-pub loop-left-preserved : goal.loop-left-preserved
-loop-left-preserved c =
-    let l = c.loop-left in
-    left_less _ _ (generator_of l.now) l.left (omega arith) c.fed_back-now.ensures l.invariant
+pub loop-preserved : goal.loop-preserved
+loop-preserved c = c.fed_back-now.ensures ∙ ap (times 16 (fed_back grainv1)) c.loop.invariant ∙ fed_back_more c.loop.counter _
 
 pub returns : goal.returns
 returns c =
-    let l = c.loop-left in
-    left_none _ _ (generator_of l.now) l.left (omega arith) l.invariant
+    let done : c.loop.counter ≡ 10 = omega arith in
+    (rw done at c.loop.invariant) ∙ started-words c.args.key0 c.args.key1 c.args.nonce

@@ -1,11 +1,11 @@
 -- `grainv1::starting::start` meets its contract.
-use Rattle.bits.specs.Bytes.{word}
-use Rattle.grainv1.specs.Words.{register, generator_of}
-use Rattle.grainv1.proofs.StartUp.{Left}
+use mathlib.Core.Path.{◌≡◌}
+use Prim.Native.Nat.{◌*◌}
+use Rattle.bits.specs.Times.{times}
+use Rattle.generators.specs.Generator.{fed_back}
+use Rattle.grainv1.specs.Functions.{grainv1}
+use Rattle.grainv1.specs.Words.{generator_of}
 use Rattle.grainv1.proofs.starting.start.Given as goal
 
-abbrev pub invariant-loop-left : goal.invariant-loop-left
-invariant-loop-left l = Left (register l.key0 l.key1) (word 64 l.nonce) (generator_of l.now) l.left
-
-abbrev pub decreases-loop-left : goal.decreases-loop-left
-decreases-loop-left l = l.left
+abbrev pub invariant-loop : goal.invariant-loop
+invariant-loop l = generator_of l.now ≡ times (l.counter * 16) (fed_back grainv1) (generator_of l.initial.now)
