@@ -10,17 +10,8 @@ use std::io;
 
 const COUNTS: [usize; 14] = [0, 1, 2, 16, 31, 32, 33, 63, 64, 65, 95, 96, 97, 1000];
 
-// A line for each count.
-fn way(rt: &impl Print, name: &str, to_add: Adding) -> io::Result<()> {
-    for clocks in COUNTS {
-        compared::line(rt, name, to_add, clocks)?;
-    }
-    Ok(())
-}
-
-fn main(rt: HostRuntime) -> io::Result<()> {
-    way(
-        &rt,
+const WAYS: [(&str, Adding); 4] = [
+    (
         "plain",
         Adding {
             fed: false,
@@ -29,9 +20,8 @@ fn main(rt: HostRuntime) -> io::Result<()> {
             nfsr0: 0,
             nfsr1: 0,
         },
-    )?;
-    way(
-        &rt,
+    ),
+    (
         "fed back",
         Adding {
             fed: true,
@@ -40,9 +30,8 @@ fn main(rt: HostRuntime) -> io::Result<()> {
             nfsr0: 0,
             nfsr1: 0,
         },
-    )?;
-    way(
-        &rt,
+    ),
+    (
         "with 128 key bits",
         Adding {
             fed: false,
@@ -51,9 +40,8 @@ fn main(rt: HostRuntime) -> io::Result<()> {
             nfsr0: 0,
             nfsr1: 0,
         },
-    )?;
-    way(
-        &rt,
+    ),
+    (
         "fed back, with bits added to both registers",
         Adding {
             fed: true,
@@ -62,5 +50,15 @@ fn main(rt: HostRuntime) -> io::Result<()> {
             nfsr0: 0xfedc_ba98_7654_3210,
             nfsr1: 0x0fed_cba9_8765_4321,
         },
-    )
+    ),
+];
+
+// A line for each way and count.
+fn main(rt: HostRuntime) -> io::Result<()> {
+    for (name, to_add) in WAYS {
+        for clocks in COUNTS {
+            compared::line(&rt, name, to_add, clocks)?;
+        }
+    }
+    Ok(())
 }
