@@ -1,27 +1,9 @@
-// Counts what came out as expected and what did not, with a line for each, which names the column and the row.
-use std::io;
+// Prints a line for each cell of the table and each call, which names the column and the row, and counts those that came out as expected
+// and those that did not.
+use std::fmt::Display;
+use std::{fmt, io};
 
-#[derive(Clone, Copy)]
-pub struct Tally {
-    pub good: u32,
-    pub bad: u32,
-}
-
-fn counted(t: Tally, ok: bool) -> Tally {
-    if ok {
-        Tally {
-            good: t.good.wrapping_add(1),
-            bad: t.bad,
-        }
-    } else {
-        Tally {
-            good: t.good,
-            bad: t.bad.wrapping_add(1),
-        }
-    }
-}
-
-// How a number came out, to be shown in so many hex digits.
+// How a number came out, to be shown in so many hex digits, and what was expected where that is something else.
 #[derive(Clone, Copy)]
 pub struct Compared {
     digits: usize,
@@ -37,91 +19,71 @@ pub fn hex(digits: usize, found: u64, expected: u64) -> Compared {
     }
 }
 
-// The line up to the row's name.
-fn begin(rt: &impl Print, ok: bool, column: usize, row: &str) -> io::Result<()> {
-    let verdict = if ok { "as expected" } else { "NOT" };
-    print!(rt; "{verdict:<11}  column {column}, {row}")
-}
-
-// The rest of it: what came out, and what was expected where that is something else.
-fn end(rt: &impl Print, v: Compared) -> io::Result<()> {
-    let digits = v.digits;
-    let found = v.found;
-    let expected = v.expected;
-    print!(rt; ": {found:0digits$x}")?;
-    if found != expected {
-        print!(rt; " and not {expected:0digits$x}")?;
+impl Display for Compared {
+    fn fmt<W: fmt::Write>(&self, f: &mut fmt::Formatter<W>) -> fmt::Result {
+        let digits = self.digits;
+        let found = self.found;
+        let expected = self.expected;
+        write!(f, "{found:0digits$x}")?;
+        if found != expected {
+            write!(f, " and not {expected:0digits$x}")?;
+        }
+        Ok(())
     }
-    println!(rt)
 }
 
-pub fn cell(rt: &impl Print, t: Tally, column: usize, row: &str, v: Compared) -> io::Result<Tally> {
-    begin(rt, v.found == v.expected, column, row)?;
-    end(rt, v)?;
-    Ok(counted(t, v.found == v.expected))
+#[derive(Drop)]
+pub struct Report<'a, P: Print> {
+    rt: &'a P,
+    good: u32,
+    bad: u32,
 }
 
-// A cell whose name has a number in it.
-pub fn numbered(
-    rt: &impl Print,
-    t: Tally,
-    column: usize,
-    name: &str,
-    n: usize,
-    rest: &str,
-    v: Compared,
-) -> io::Result<Tally> {
-    begin(rt, v.found == v.expected, column, name)?;
-    print!(rt; "{n}{rest}")?;
-    end(rt, v)?;
-    Ok(counted(t, v.found == v.expected))
-}
-
-// How the five numbers of a row are shown: what the first is numbered, and the digits of each.
-#[derive(Clone, Copy)]
-pub struct Style {
-    first: usize,
-    digits: usize,
-}
-
-pub const WORDS: Style = Style {
-    first: 1,
-    digits: 16,
-};
-
-pub const TAGS: Style = Style {
-    first: 0,
-    digits: 8,
-};
-
-pub fn row(
-    rt: &impl Print,
-    t: Tally,
-    column: usize,
-    name: &str,
-    rest: &str,
-    style: Style,
-    found: &[u64; 5],
-    expected: &[u64; 5],
-) -> io::Result<Tally> {
-    let mut counts = t;
-    for i in 0..5 {
-        let n = style.first.wrapping_add(i);
-        let v = hex(style.digits, found[i], expected[i]);
-        counts = numbered(rt, counts, column, name, n, rest, v)?;
+impl<'a, P: Print> Report<'a, P> {
+    pub fn new(rt: &'a P) -> Self {
+        Report {
+            rt,
+            good: 0,
+            bad: 0,
+        }
     }
-    Ok(counts)
-}
 
-// What a call does.
-pub fn line(rt: &impl Print, t: Tally, column: usize, name: &str, ok: bool) -> io::Result<Tally> {
-    begin(rt, ok, column, name)?;
-    println!(rt)?;
-    Ok(counted(t, ok))
-}
+    // What a call does.
+    pub fn line(&mut self, column: usize, name: impl Display + Drop, ok: bool) -> io::Result<()> {
+        let verdict = if ok { "as expected" } else { "NOT" };
+        println!(self.rt; "{verdict:<11}  column {column}, {name}")?;
+        let count = if ok { &mut self.good } else { &mut self.bad };
+        *count = count.wrapping_add(1);
+        Ok(())
+    }
 
-pub fn close(rt: &impl Print, t: Tally) -> io::Result<()> {
-    let good = t.good;
-    let bad = t.bad;
-    println!(rt; "{good} as expected, {bad} not")
+    pub fn cell(
+        &mut self,
+        column: usize,
+        row: impl Display + Drop,
+        cell: Compared,
+    ) -> io::Result<()> {
+        let ok = cell.found == cell.expected;
+        self.line(column, format_args!("{row}: {cell}"), ok)
+    }
+
+    // The words of a row, numbered from 1.
+    pub fn words(
+        &mut self,
+        column: usize,
+        row: &str,
+        found: &[u64],
+        expected: &[u64],
+    ) -> io::Result<()> {
+        for (i, (word, wanted)) in found.iter().zip(expected).enumerate() {
+            let n = i + 1;
+            let cell = hex(16, *word, *wanted);
+            self.cell(column, format_args!("{row}, word {n}"), cell)?;
+        }
+        Ok(())
+    }
+
+    pub fn close(&self) -> io::Result<()> {
+        println!(self.rt; "{} as expected, {} not", self.good, self.bad)
+    }
 }
