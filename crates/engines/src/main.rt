@@ -11,34 +11,14 @@ use std::io;
 const COUNTS: [usize; 14] = [0, 1, 2, 16, 31, 32, 33, 63, 64, 65, 95, 96, 97, 1000];
 
 const WAYS: [(&str, Adding); 4] = [
-    (
-        "plain",
-        Adding {
-            fed: false,
-            lfsr0: 0,
-            lfsr1: 0,
-            nfsr0: 0,
-            nfsr1: 0,
-        },
-    ),
-    (
-        "fed back",
-        Adding {
-            fed: true,
-            lfsr0: 0,
-            lfsr1: 0,
-            nfsr0: 0,
-            nfsr1: 0,
-        },
-    ),
+    ("plain", Adding::NOTHING),
+    ("fed back", Adding::FED_BACK),
     (
         "with 128 key bits",
         Adding {
-            fed: false,
             lfsr0: 0x0123_4567_89ab_cdef,
             lfsr1: 0x1234_5678_9abc_def0,
-            nfsr0: 0,
-            nfsr1: 0,
+            ..Adding::NOTHING
         },
     ),
     (

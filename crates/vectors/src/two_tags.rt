@@ -23,22 +23,9 @@ fn differ(s: &[u8], t: &[u8], position: usize) -> bool {
     (bits >> (7 - position % 8)) % 2 == 1
 }
 
-// Nothing is added to the new bits.
-const PLAIN: Adding = Adding {
-    fed: false,
-    lfsr0: 0,
-    lfsr1: 0,
-    nfsr0: 0,
-    nfsr1: 0,
-};
-
 // The machine after a zero of the string, clock by clock: the lowest of the two pre-outputs is that of the second clock.
 fn next(e: Engine) -> Engine {
-    let begun = Run {
-        registers: e.registers,
-        outputs: 0,
-    };
-    let clocked = plain::run(begun, PLAIN, 2);
+    let clocked = plain::run(Run::begun(e.registers), Adding::NOTHING, 2);
     Engine {
         registers: clocked.registers,
         tagger: authenticator::absorb(e.tagger, 0, clocked.outputs),
@@ -57,7 +44,7 @@ fn registers() -> [u64; LONGEST] {
 }
 
 // The sum of the registers at the positions where two strings differ.
-fn sum(registers: &[u64; LONGEST], s: &[u8], t: &[u8]) -> u64 {
+fn sum_at_differences(registers: &[u64; LONGEST], s: &[u8], t: &[u8]) -> u64 {
     registers
         .iter()
         .enumerate()
@@ -91,7 +78,7 @@ fn few_positions(report: &mut Report<'_, impl Print>) -> io::Result<()> {
             report.word(format_args!("register at position {i}"), *register)?;
         }
     }
-    let sum = sum(&registers, &FIRST, &string);
+    let sum = sum_at_differences(&registers, &FIRST, &string);
     report.word("sum of these registers", sum)?;
     report.word("sum of the two tags", first ^ second)?;
     report.line("the two sums are equal", sum == first ^ second)
@@ -105,7 +92,7 @@ fn equal_tags(report: &mut Report<'_, impl Print>) -> io::Result<()> {
     ];
     let first = tag(&[0xa5], &[0x3c]);
     let second = tag(&[0xa5, 0x3c], &message);
-    let sum = sum(&registers(), &FIRST, &string);
+    let sum = sum_at_differences(&registers(), &FIRST, &string);
     report.word("tag of AD A5 3C, message 81 29 44 ED C3 15 7A D6", second)?;
     report.word(
         "sum of the registers where its string differs from the first",
