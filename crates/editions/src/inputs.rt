@@ -1,4 +1,6 @@
 // The key and the nonce of the first edition's second published vector, and counting bytes.
+use std::array;
+
 pub const KEY: [u8; 16] = [
     0x01, 0x23, 0x45, 0x67, 0x89, 0xab, 0xcd, 0xef, 0x12, 0x34, 0x56, 0x78, 0x9a, 0xbc, 0xde, 0xf0,
 ];
@@ -7,9 +9,7 @@ pub const NONCE: [u8; 12] = [
     0x01, 0x23, 0x45, 0x67, 0x89, 0xab, 0xcd, 0xef, 0x12, 0x34, 0x56, 0x78,
 ];
 
-// Fills a string with 00, 01, 02 and so on.
-pub fn count(bytes: &mut [u8]) {
-    for (i, byte) in bytes.iter_mut().enumerate() {
-        *byte = (i % 256) as u8;
-    }
+// 00, 01, 02 and so on.
+pub fn counting<const N: usize>() -> [u8; N] {
+    array::from_fn(|i| (i % 256) as u8)
 }

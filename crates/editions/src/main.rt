@@ -11,26 +11,30 @@ use machine::edition::Edition;
 use std::io;
 
 fn main(rt: HostRuntime) -> io::Result<()> {
-    starts::loading(
-        &rt,
-        "loaded with the bits of every byte from the lowest up",
-        Edition::Second,
-    )?;
-    starts::loading(
-        &rt,
-        "loaded with the bits of every byte from the top down",
-        Edition::First,
-    )?;
-    starts::start_up(
-        &rt,
-        "second edition's start-up, bits from the lowest up",
-        Edition::Second,
-    )?;
-    starts::start_up(
-        &rt,
-        "second edition's start-up, bits from the top down",
-        Edition::First,
-    )?;
+    for (title, order) in [
+        (
+            "loaded with the bits of every byte from the lowest up",
+            Edition::Second,
+        ),
+        (
+            "loaded with the bits of every byte from the top down",
+            Edition::First,
+        ),
+    ] {
+        starts::loading(&rt, title, order)?;
+    }
+    for (title, order) in [
+        (
+            "second edition's start-up, bits from the lowest up",
+            Edition::Second,
+        ),
+        (
+            "second edition's start-up, bits from the top down",
+            Edition::First,
+        ),
+    ] {
+        starts::start_up(&rt, title, order)?;
+    }
     starts::started(&rt, "edition 1, started", Edition::First)?;
     starts::started(&rt, "edition 2, started", Edition::Second)?;
     payloads::all(&rt)

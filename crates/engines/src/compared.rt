@@ -1,37 +1,20 @@
 // The two engines beside one another.
 use crate::states;
-use preoutput::{Adding, Run, plain};
-use std::io;
+use preoutput::{Adding, plain};
+use std::{io, iter};
 
 const STATES: usize = 100;
 
 const FIRST: u64 = 0x0123_4567_89ab_cdef;
 
-fn same(a: Run, b: Run) -> bool {
-    let g = a.registers;
-    let h = b.registers;
-    g.lfsr0 == h.lfsr0
-        && g.lfsr1 == h.lfsr1
-        && g.nfsr0 == h.nfsr0
-        && g.nfsr1 == h.nfsr1
-        && a.outputs == b.outputs
-}
-
 // Whether the engines end in the same words on each of the states.
 fn agree(to_add: Adding, clocks: usize) -> bool {
-    let mut seed: u64 = FIRST;
-    let mut all = true;
-    for _ in 0..STATES {
-        let begun = states::state(seed);
-        if !same(
-            plain::run(begun, to_add, clocks),
-            strokes::run(begun, to_add, clocks),
-        ) {
-            all = false;
-        }
-        seed = states::after(begun.outputs);
-    }
-    all
+    let first = states::state(FIRST);
+    iter::successors(Some(first), |begun| {
+        Some(states::state(states::after(begun.outputs)))
+    })
+    .take(STATES)
+    .all(|begun| plain::run(begun, to_add, clocks) == strokes::run(begun, to_add, clocks))
 }
 
 // Also shows the last 64 pre-outputs from the first state.

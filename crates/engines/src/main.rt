@@ -10,50 +10,18 @@ use std::io;
 
 const COUNTS: [usize; 14] = [0, 1, 2, 16, 31, 32, 33, 63, 64, 65, 95, 96, 97, 1000];
 
-// A line for each count.
-fn way(rt: &impl Print, name: &str, to_add: Adding) -> io::Result<()> {
-    for clocks in COUNTS {
-        compared::line(rt, name, to_add, clocks)?;
-    }
-    Ok(())
-}
-
-fn main(rt: HostRuntime) -> io::Result<()> {
-    way(
-        &rt,
-        "plain",
-        Adding {
-            fed: false,
-            lfsr0: 0,
-            lfsr1: 0,
-            nfsr0: 0,
-            nfsr1: 0,
-        },
-    )?;
-    way(
-        &rt,
-        "fed back",
-        Adding {
-            fed: true,
-            lfsr0: 0,
-            lfsr1: 0,
-            nfsr0: 0,
-            nfsr1: 0,
-        },
-    )?;
-    way(
-        &rt,
+const WAYS: [(&str, Adding); 4] = [
+    ("plain", Adding::NOTHING),
+    ("fed back", Adding::FED_BACK),
+    (
         "with 128 key bits",
         Adding {
-            fed: false,
             lfsr0: 0x0123_4567_89ab_cdef,
             lfsr1: 0x1234_5678_9abc_def0,
-            nfsr0: 0,
-            nfsr1: 0,
+            ..Adding::NOTHING
         },
-    )?;
-    way(
-        &rt,
+    ),
+    (
         "fed back, with bits added to both registers",
         Adding {
             fed: true,
@@ -62,5 +30,15 @@ fn main(rt: HostRuntime) -> io::Result<()> {
             nfsr0: 0xfedc_ba98_7654_3210,
             nfsr1: 0x0fed_cba9_8765_4321,
         },
-    )
+    ),
+];
+
+// A line for each way and count.
+fn main(rt: HostRuntime) -> io::Result<()> {
+    for (name, to_add) in WAYS {
+        for clocks in COUNTS {
+            compared::line(&rt, name, to_add, clocks)?;
+        }
+    }
+    Ok(())
 }

@@ -10,27 +10,15 @@ ghost use Rattle.probes.specs.Probes.{last_outputs};
 use machine::edition::Edition;
 use preoutput::{Adding, Registers, Run};
 
-// Nothing is added to the new bits.
-const NOTHING: Adding = Adding {
-    fed: false,
-    lfsr0: 0,
-    lfsr1: 0,
-    nfsr0: 0,
-    nfsr1: 0,
-};
-
 fn begun(lfsr0: u64, lfsr1: u64, nfsr0: u64, nfsr1: u64) -> Run
     ensures { result ≡ record { registers = record { lfsr0 = lfsr0; lfsr1 = lfsr1; nfsr0 = nfsr0; nfsr1 = nfsr1 }; outputs = 0 } }
 {
-    Run {
-        registers: Registers {
-            lfsr0,
-            lfsr1,
-            nfsr0,
-            nfsr1,
-        },
-        outputs: 0,
-    }
+    Run::begun(Registers {
+        lfsr0,
+        lfsr1,
+        nfsr0,
+        nfsr1,
+    })
 }
 
 // The last 64 pre-outputs of n plain clocks, clock by clock.
@@ -44,7 +32,7 @@ pub extern "C" fn probe_plain_engine(
 ) -> u64
     ensures { word 64 result ≡ last_outputs lfsr0 lfsr1 nfsr0 nfsr1 n }
 {
-    let r = preoutput::plain::run(begun(lfsr0, lfsr1, nfsr0, nfsr1), NOTHING, n);
+    let r = preoutput::plain::run(begun(lfsr0, lfsr1, nfsr0, nfsr1), Adding::NOTHING, n);
     r.outputs
 }
 
@@ -53,7 +41,7 @@ pub extern "C" fn probe_plain_engine(
 pub extern "C" fn probe_strokes(lfsr0: u64, lfsr1: u64, nfsr0: u64, nfsr1: u64, n: usize) -> u64
     ensures { word 64 result ≡ last_outputs lfsr0 lfsr1 nfsr0 nfsr1 n }
 {
-    let r = strokes::run(begun(lfsr0, lfsr1, nfsr0, nfsr1), NOTHING, n);
+    let r = strokes::run(begun(lfsr0, lfsr1, nfsr0, nfsr1), Adding::NOTHING, n);
     r.outputs
 }
 
@@ -63,6 +51,5 @@ pub extern "C" fn probe_start_up(key: &[u8; 16], nonce: &[u8; 12]) -> u64
     ensures { word 64 result ≡ (initialised First key.now nonce.now).authenticator.accumulator }
 {
     let e = startup::start(Edition::First, key, nonce);
-    let t = e.tagger;
-    t.accumulator
+    e.tagger.accumulator
 }

@@ -3,17 +3,18 @@
 #![tactic(auto)]
 
 mod calls;
+mod report;
 mod rows;
 mod table;
-mod tally;
 
+use report::Report;
 use std::io;
-use tally::Tally;
 
 fn main(rt: HostRuntime) -> io::Result<()> {
-    let begun = Tally { good: 0, bad: 0 };
-    let preoutputs = rows::preoutputs(&rt, begun)?;
-    let authenticated = rows::authenticated(&rt, preoutputs)?;
-    let short = rows::short_tag(&rt, authenticated)?;
-    tally::close(&rt, calls::run(&rt, short)?)
+    let mut report = Report::new(&rt);
+    rows::preoutputs(&mut report)?;
+    rows::authenticated(&mut report)?;
+    rows::short_tag(&mut report)?;
+    calls::run(&mut report)?;
+    report.close()
 }

@@ -5,20 +5,21 @@
 mod examples;
 mod grain_v1;
 mod published;
-mod tally;
+mod report;
 mod two_tags;
 
+use report::Report;
 use std::io;
-use tally::Tally;
 
 fn main(rt: HostRuntime) -> io::Result<()> {
-    let begun = Tally { good: 0, bad: 0 };
-    let vectors = published::run(&rt, begun)?;
-    let edges = examples::edges(&rt, vectors)?;
-    let refusals = examples::order(&rt, edges)?;
-    let blank = examples::blank_key(&rt, refusals)?;
-    let largest = examples::largest(&rt, blank)?;
-    let tags = two_tags::run(&rt, largest)?;
-    let designers = grain_v1::published(&rt, tags)?;
-    tally::close(&rt, grain_v1::edges(&rt, designers)?)
+    let mut report = Report::new(&rt);
+    published::run(&mut report)?;
+    examples::edges(&mut report)?;
+    examples::order(&mut report)?;
+    examples::blank_key(&mut report)?;
+    examples::largest(&mut report)?;
+    two_tags::run(&mut report)?;
+    grain_v1::published(&mut report)?;
+    grain_v1::edges(&mut report)?;
+    report.close()
 }
