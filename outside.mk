@@ -94,7 +94,7 @@ TRIED := $(foreach program,$(PROGRAMS),$(addprefix $(OUT)/$(program)-,c c++ plai
 
 $(TRIED): tests/checks.h tests/sections.h include/tikhoplav.h build/libtikhoplav.a
 
-# memcpy and memset are bound before the first call, so that the dynamic linker takes no stack in it.
+# memset is bound before the first call, so that the dynamic linker takes no stack in it.
 $(OUT)/stack: tests/stack.c tests/sections.h include/tikhoplav.h build/libtikhoplav.a
 	$(C99) -Wl,-z,now $< build/libtikhoplav.a -o $@
 
@@ -121,7 +121,7 @@ try-calls:
 	@$(CXX11) -fsyntax-only include/tikhoplav.h
 	@echo '== what the archive needs from elsewhere'
 	@needed=$$(nm --undefined-only --format=posix build/libtikhoplav.a | sed -n 's/ U.*//p') && echo $$needed && \
-	  [ "$$(echo $$needed)" = 'memcpy memset' ] || { echo 'the header says memcpy and memset' >&2; exit 1; }
+	  [ "$$(echo $$needed)" = memset ] || { echo 'the header says memset' >&2; exit 1; }
 	@echo '== the stack that the calls take'
 	@$(OUT)/stack
 	@echo '== the calls from C, with sanitizers'

@@ -41,15 +41,15 @@
  * What the archive needs
  *
  *   Link with -ltikhoplav. The code is for x86-64 and the System V calling convention (it uses the red zone and SSE2).
- *   The symbols that it needs from elsewhere are memcpy and memset. It allocates nothing. It has no global state, so
+ *   The symbol that it needs from elsewhere is memset. It allocates nothing. It has no global state, so
  *   calls may run at the same time in any number of threads, as long as nobody writes to a buffer that a running call
  *   reads, or touches one that it writes.
  *
  *   A call takes at most 2048 bytes of stack below its caller's frame. This is measured, up to the largest lengths, and
- *   not proved: 1080 bytes for sealing and opening, 1240 for making and reading a frame, 1248 for the calls on
- *   captures (at depth 6), 56 for that on signals, 968 for those on streams, 888 for those of Grain-128a, 176 for that
- *   of Grain v1, with the memcpy and the memset of the GNU C library. Where these stand in a shared library and are
- *   bound at their first use, the dynamic linker takes stack of its own in those calls (about 3 KiB more on Linux).
+ *   not proved: 1209 bytes for sealing and opening, 1369 for making and reading a frame, 1280 for the calls on
+ *   captures (at depth 6), 40 for that on signals, 1081 for those on streams, 921 for those of Grain-128a, 161 for that
+ *   of Grain v1, with the memset of the GNU C library. Where it stands in a shared library and is bound at its first
+ *   use, the dynamic linker takes stack of its own in that call (about 3 KiB more on Linux).
  *
  * What the caller owes
  *

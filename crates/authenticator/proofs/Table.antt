@@ -2,9 +2,9 @@
 -- Assumes nothing.
 use mathlib.Core.Path.{◌≡◌, sym, ap, ap₂, ◌∙◌}
 use mathlib.Core.Bool.{Bool, true, false}
-use mathlib.Core.List.{List, [], ◌∷◌, ◌++◌, map}
-use Prim.Native.Nat.{ℕ, zero, suc, ◌+◌, ◌*◌, ◌/◌, ◌%◌, ◌^◌, ◌<◌}
-use native.Mathlib.Nat.{not-suc-le-zero, le_of_suc-le-suc, le_of_eq, zero-add, add-zero, add-suc, suc-add, add_comm, mul-one, mul-suc, mul_assoc, mul-zero, mod-lt, mod-mod}
+use mathlib.Core.List.{List, [], ◌∷◌, map}
+use Prim.Native.Nat.{ℕ, zero, suc, ◌+◌, ◌*◌, ◌/◌, ◌%◌, ◌^◌}
+use native.Mathlib.Nat.{le_of_eq, zero-add, add_comm, mul-one, mul-suc, mul_assoc, mul-zero, mod-lt, mod-mod}
 use lib.Bits.{bit_xor}
 use lib.ListN.{length, get_or}
 use lib.Pow.{pow_pos, pow-add}

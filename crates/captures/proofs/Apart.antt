@@ -2,7 +2,8 @@
 -- Assumes nothing.
 use Rattle.std.proofs.Common.{◌≡◌, ℕ, zero, suc, ◌+◌, ◌<◌, ◌≤◌, List, [], ◌∷◌, ◌++◌, refl, ap, arith}
 use Rattle.captures.specs.declared.Part.{Part}
-use Rattle.captures.specs.declared.Found.TheVariants.{At}
+use Rattle.std.specs.Prelude.{Ok}
+use Rattle.std.specs.List.{AllByRecursion}
 use Rattle.captures.specs.Calls.{numbered}
 use Rattle.captures.specs.Listing.{Apart}
 
@@ -11,7 +12,7 @@ unfolding Apart
 apart-ordered from to [] h = h
 apart-ordered from to (p ∷ ps) h = omega (arith, h.0, apart-ordered (p.start + p.size) to ps h.1)
 
-pub numbered-ends : (from to : ℕ) (ps : List Part) (n : ℕ) (p : Part) → Apart from to ps → numbered ps n ≡ At p → p.start + p.size ≤ to
+pub numbered-ends : (from to : ℕ) (ps : List Part) (n : ℕ) (p : Part) → Apart from to ps → numbered ps n ≡ Ok p → p.start + p.size ≤ to
 unfolding Apart numbered
 numbered-ends from to [] n p h e = let z : ◌≡◌ {A = ℕ} 0 1 = cc in absurd (omega arith)
 numbered-ends from to (q ∷ ps) zero p h e =
@@ -19,7 +20,7 @@ numbered-ends from to (q ∷ ps) zero p h e =
     rw (← same) (apart-ordered (q.start + q.size) to ps h.1)
 numbered-ends from to (q ∷ ps) (suc n) p h e = numbered-ends (q.start + q.size) to ps n p h.1 e
 
-numbered_begins : (from to : ℕ) (ps : List Part) (n : ℕ) (p : Part) → Apart from to ps → numbered ps n ≡ At p → from ≤ p.start
+numbered_begins : (from to : ℕ) (ps : List Part) (n : ℕ) (p : Part) → Apart from to ps → numbered ps n ≡ Ok p → from ≤ p.start
 unfolding Apart numbered
 numbered_begins from to [] n p h e = let z : ◌≡◌ {A = ℕ} 0 1 = cc in absurd (omega arith)
 numbered_begins from to (q ∷ ps) zero p h e =
@@ -29,23 +30,22 @@ numbered_begins from to (q ∷ ps) (suc n) p h e = omega (arith, h.0, numbered_b
 
 -- Each part has a byte or more.
 abbrev pub EachLong : List Part → Type 0
-EachLong [] = Unit {0}
-EachLong (p ∷ ps) = (0 < p.size) × EachLong ps
+EachLong = AllByRecursion (λ p. 0 < p.size)
 
-pub long_append : (ps qs : List Part) → EachLong ps → EachLong qs → EachLong (ps ++ qs)
-long_append [] qs h k = k
-long_append (p ∷ ps) qs h k = (h.0, long_append ps qs h.1 k)
+-- What holds of each of two lists holds of each of both.
+pub each_append : {X : Type 0} (P : X → Type 0) (xs ys : List X) → AllByRecursion P xs → AllByRecursion P ys → AllByRecursion P (xs ++ ys)
+each_append P [] ys h k = k
+each_append P (x ∷ xs) ys h k = (h.0, each_append P xs ys h.1 k)
 
 -- A part that has a byte is not found again behind where it ends.
-not_behind : (to : ℕ) (q : Part) (ps : List Part) (n : ℕ) (p : Part) → Apart (q.start + q.size) to ps → 0 < q.size → At q ≡ At p → numbered ps n ≡ At p → ⊥
+not_behind : (to : ℕ) (q : Part) (ps : List Part) (n : ℕ) (p : Part) → Apart (q.start + q.size) to ps → 0 < q.size → q ≡ p → numbered ps n ≡ Ok p → ⊥
 not_behind to q ps n p h long e f =
-    let same : q ≡ p = cc in
-    omega (arith, ap (λ (x : Part). x.start) same, numbered_begins (q.start + q.size) to ps n p h f)
+    omega (arith, ap (λ (x : Part). x.start) e, numbered_begins (q.start + q.size) to ps n p h f)
 
-pub numbered-once : (from to : ℕ) (ps : List Part) → Apart from to ps → EachLong ps → (m n : ℕ) (p : Part) → numbered ps m ≡ At p → numbered ps n ≡ At p → m ≡ n
+pub numbered-once : (from to : ℕ) (ps : List Part) → Apart from to ps → EachLong ps → (m n : ℕ) (p : Part) → numbered ps m ≡ Ok p → numbered ps n ≡ Ok p → m ≡ n
 unfolding Apart numbered
 numbered-once from to [] h long m n p e f = let z : ◌≡◌ {A = ℕ} 0 1 = cc in absurd (omega arith)
 numbered-once from to (q ∷ ps) h long zero zero p e f = refl
-numbered-once from to (q ∷ ps) h long zero (suc n) p e f = absurd (not_behind to q ps n p h.1 long.0 e f)
-numbered-once from to (q ∷ ps) h long (suc m) zero p e f = absurd (not_behind to q ps m p h.1 long.0 f e)
+numbered-once from to (q ∷ ps) h long zero (suc n) p e f = absurd (not_behind to q ps n p h.1 long.0 (cc) f)
+numbered-once from to (q ∷ ps) h long (suc m) zero p e f = absurd (not_behind to q ps m p h.1 long.0 (cc) e)
 numbered-once from to (q ∷ ps) h long (suc m) (suc n) p e f = ap suc (numbered-once (q.start + q.size) to ps h.1 long.1 m n p e f)

@@ -3,7 +3,7 @@
 use Rattle.std.proofs.Common.{◌≡◌, ℕ, zero, suc, ◌+◌, Bool, true, false, cond, ltb, ◌⊎◌, List, length, refl, ap, inl, inr}
 use Rattle.refusals.specs.declared.Refusal.{Refusal}
 use Rattle.refusals.specs.declared.Refusal.TheVariants.{BrokenCapture, TooDeep}
-use Rattle.captures.specs.declared.Found.TheVariants.{Refused}
+use Rattle.std.specs.Prelude.{Err}
 use Rattle.captures.specs.Layout.{capture_limit, depth_limit, entry_count, head_size, part, kind_at, size_at, head_sound, is_frame}
 use Rattle.captures.specs.Content.{Content, none, frame, group, Inside}
 use Rattle.captures.specs.Walk.{Walked, broken, sound, before, group_before, walk_body, walk_bodies, walk_section, walk_capture}
@@ -78,5 +78,5 @@ hands_out_nothing s r e = record {
   stays = λ number. ap (following number) (refused number);
 }
   where
-    refused : (number : ℕ) → found s number ≡ Refused r
+    refused : (number : ℕ) → found s number ≡ Err r
     refused number = ap (λ (w : Walked). found_in w number) e

@@ -2,6 +2,7 @@ pub mod Spelled
 pub mod Places
 pub mod Finds
 pub mod Heads
+pub mod Reading
 pub mod FrameTests
 pub mod Sizes
 pub mod Writing

@@ -2,7 +2,7 @@
 -- Assumes nothing.
 use Rattle.std.proofs.Common.{◌≡◌, ℕ, zero, suc, ◌+◌, ◌≤◌, List, [], ◌∷◌, ◌++◌, map, length, drop, sym, refl, ap, ◌∙◌, ap₂, append_assoc, append-nil, le_refl, zero-add, arith, length-append, drop_at}
 use mathlib.Core.List.{map-append}
-use Rattle.refusals.specs.declared.Answer.TheVariants.{Count}
+use Rattle.std.specs.Prelude.{Ok}
 use Rattle.captures.specs.declared.Part.{Part}
 use Rattle.captures.specs.Content.{Content, none, frame, group, head_size_of, bodies_size, section_size, head, bodies, written, Inside, frames_from, frames_of}
 use Rattle.captures.specs.Walk.{sound, walk_capture}
@@ -12,7 +12,7 @@ use Rattle.captures.proofs.Places.{here, behind}
 use Rattle.captures.proofs.Sizes.{frame-size, length-head, length-written}
 use Rattle.captures.proofs.ReadBack.{legal-found}
 use Rattle.captures.proofs.Numbered.{found_is, found-past, found_all}
-use Rattle.captures.proofs.Apart.{EachLong, long_append, numbered-once}
+use Rattle.captures.proofs.Apart.{EachLong, each_append, numbered-once}
 
 -- There are as many frames as leaves, and they have the leaves' bytes.
 pub length-frames : (place : ℕ) (c : Content) → length (frames_from place c) ≡ length (leaves c)
@@ -58,7 +58,7 @@ frames_long levels place none h = tt
 frames_long levels place (frame body d) h = (omega (arith, frame-size body h.0), frames_long levels (place + length body) d h.1)
 frames_long zero place (group b d) h = absurd h
 frames_long (suc levels) place (group b d) h =
-    long_append (frames_from (place + head_size_of b) b) _ (frames_long levels (place + head_size_of b) b h.1) (frames_long (suc levels) (place + section_size b) d h.2)
+    each_append _ (frames_from (place + head_size_of b) b) _ (frames_long levels (place + head_size_of b) b h.1) (frames_long (suc levels) (place + section_size b) d h.2)
 
 -- They are the frames among the pieces, and the pieces fill the section.
 among-append : (ps qs : List Piece) → frames_among (ps ++ qs) ≡ frames_among ps ++ frames_among qs
@@ -98,7 +98,7 @@ every_frame s c h w =
     let z = zero-add (head_size_of c) in
     let apart = frames-apart c 0 (0 + head_size_of c) (length s) (omega arith) (omega arith) in
     record {
-      counts = ap count_of e ∙ ap Count n;
+      counts = ap count_of e ∙ ap Ok n;
       finds = rw (← n) (found_all s c e);
       past = λ number k. found-past s c e number (omega arith);
       bytes = frames-bytes c (0 + head_size_of c) s [] (rw (z, w) (drop_at (head c) (bodies c) (head_size_of c) (length-head c) ∙ sym (append-nil (bodies c))));

@@ -5,7 +5,7 @@ use native.Mathlib.Nat.{sub-zero}
 use Rattle.refusals.specs.declared.Refusal.{Refusal}
 use Rattle.refusals.specs.declared.Refusal.TheVariants.{BrokenCapture}
 use Rattle.captures.specs.declared.walk.Tally.{Tally}
-use Rattle.captures.specs.declared.walk.Tallied.TheVariants.{Broken, Sound}
+use Rattle.std.specs.Prelude.{Ok, Err}
 use Rattle.captures.specs.Layout.{entry_limit, part, entry_count, head_size, kind_at, size_at, entries_sound, head_sound, is_frame}
 use Rattle.captures.specs.Content.{frames_from, part_of}
 use Rattle.captures.specs.Walk.{walk_bodies, walk_section}
@@ -39,7 +39,7 @@ begins sought t base levels s n e h sound less =
     }
 
 pub ends : (sought : ℕ) (t₀ : Tally) (base levels : ℕ) (s : List ℕ) (n : ℕ) (t : Tally) (place k : ℕ) → Left sought t₀ base levels s n t place k → n ≤ k
-    → Sound t ≡ tallied sought t₀ base (walk_section levels s)
+    → Ok t ≡ tallied sought t₀ base (walk_section levels s)
 unfolding walk_bodies frames_from counted_all
 ends sought t₀ base levels s n t place k left done =
     let none : n - k ≡ 0 = omega (arith, left.passed) in
@@ -81,7 +81,7 @@ module _ (sought : ℕ) (t₀ t : Tally) (base levels : ℕ) (s : List ℕ) (n p
     pub sized : length body ≡ size
     sized = ap length e ∙ whole ∙ sym z
 
-    pub frame-broken : kind_at k s ≡ 0 → is_frame body ≡ false → Broken BrokenCapture ≡ tallied sought t₀ base (walk_section levels s)
+    pub frame-broken : kind_at k s ≡ 0 → is_frame body ≡ false → Err BrokenCapture ≡ tallied sought t₀ base (walk_section levels s)
     frame-broken kind other =
         sym (left.comes ∙ ap (tallied_from sought t (base + place)) (frame_breaks (walk_section (levels - 1)) n k place s h kind (rw e at other)))
 
@@ -93,13 +93,13 @@ module _ (sought : ℕ) (t₀ t : Tally) (base levels : ℕ) (s : List ℕ) (n p
         (passing (counted sought t (part_of (base + place) (size_at k s))) (omega (arith, left.fewer))
         (left.comes ∙ frame_turn (walk_section (levels - 1)) n k place s h sought t base whole kind (rw e at is)))
 
-    pub group-broken : (r : Refusal) → (kind_at k s ≡ 0 → ⊥) → Broken r ≡ tallied sought t (base + place) (walk_section (levels - 1) body)
-        → Broken r ≡ tallied sought t₀ base (walk_section levels s)
+    pub group-broken : (r : Refusal) → (kind_at k s ≡ 0 → ⊥) → Err r ≡ tallied sought t (base + place) (walk_section (levels - 1) body)
+        → Err r ≡ tallied sought t₀ base (walk_section levels s)
     group-broken r kind found =
         sym (left.comes
         ∙ ap (tallied_from sought t (base + place)) (group_breaks (walk_section (levels - 1)) n k place s h sought t (base + place) r kind (sym (rw e at found))))
 
-    pub group-tallied : (u : Tally) → (kind_at k s ≡ 0 → ⊥) → Sound u ≡ tallied sought t (base + place) (walk_section (levels - 1) body)
+    pub group-tallied : (u : Tally) → (kind_at k s ≡ 0 → ⊥) → Ok u ≡ tallied sought t (base + place) (walk_section (levels - 1) body)
         → Left sought t₀ base levels s n u (place + size) (k + 1)
     group-tallied u kind found =
         let walked = sym (rw e at found) in

@@ -3,14 +3,10 @@
 use Rattle.std.proofs.Common.{◌≡◌, ℕ, suc, ◌+◌, ◌-◌, ◌<◌, ◌≤◌, List, [], ◌∷◌, length, sym, refl, ap, ◌∙◌, zero-add, arith, eq-eqb, ne_eqb}
 use native.Mathlib.Nat.{sub-zero}
 use native.Mathlib.Decide.{ℕ_discrete}
-use Rattle.refusals.specs.declared.Refusal.{Refusal}
 use Rattle.refusals.specs.declared.Refusal.TheVariants.{PastLastFrame}
-use Rattle.refusals.specs.declared.Answer.TheVariants.{Count}
-use Rattle.refusals.specs.declared.Answer.TheVariants as answer
+use Rattle.std.specs.Prelude.{Ok, Err}
 use Rattle.captures.specs.declared.Part.{Part}
-use Rattle.captures.specs.declared.Found.TheVariants.{At, Refused}
 use Rattle.captures.specs.declared.walk.Tally.{Tally}
-use Rattle.captures.specs.declared.walk.Tallied.TheVariants.{Broken, Sound}
 use Rattle.captures.specs.Content.{frames_of}
 use Rattle.captures.specs.Walk.{Walked, broken, sound}
 use Rattle.captures.specs.Tallies.{counted, counted_all, tallied, nothing}
@@ -25,49 +21,35 @@ passed sought t [] h = refl
 passed sought t (p ∷ ps) h = passed sought (counted sought t p) ps (omega arith) ∙ simp (ne_eqb t.frames sought (λ e. omega arith))
 
 ahead : (sought : ℕ) (t : Tally) (ps : List Part) → t.frames ≤ sought → sought < t.frames + length ps
-    → numbered ps (sought - t.frames) ≡ At (counted_all sought t ps).found
+    → numbered ps (sought - t.frames) ≡ Ok (counted_all sought t ps).found
 unfolding counted_all numbered
 ahead sought t [] h less = absurd (omega arith)
 ahead sought t (p ∷ ps) h less =
     elim (ℕ_discrete t.frames sought) [
       | yes same ↦
           let none : sought - t.frames ≡ 0 = omega arith in
-          rw none (ap At (sym (passed sought (counted sought t p) ps (omega arith) ∙ simp (eq-eqb t.frames sought same))))
+          rw none (ap Ok (sym (passed sought (counted sought t p) ps (omega arith) ∙ simp (eq-eqb t.frames sought same))))
       | no other ↦
           let more : sought - t.frames ≡ suc (sought - (t.frames + 1)) = omega arith in
           rw more (ahead sought (counted sought t p) ps (omega arith) (omega arith))
     ]
 
-sought_found : (sought : ℕ) (ps : List Part) → sought < length ps → numbered ps sought ≡ At (counted_all sought nothing ps).found
+sought_found : (sought : ℕ) (ps : List Part) → sought < length ps → numbered ps sought ≡ Ok (counted_all sought nothing ps).found
 sought_found sought ps h = ap (numbered ps) (sym (sub-zero sought)) ∙ ahead sought nothing ps (omega arith) (omega arith)
 
 -- What a walk with a tally tells of the answers.
 module _ (sought : ℕ) (w : Walked) where
-  pub count-broken : (r : Refusal) → Broken r ≡ tallied sought nothing 0 w → answer.Refused r ≡ count_of w
-  count-broken r = go w
-    where
-      go : (w : Walked) → Broken r ≡ tallied sought nothing 0 w → answer.Refused r ≡ count_of w
-      go (broken q) e = cc
-      go (sound c) e = let z : ◌≡◌ {A = ℕ} 0 1 = cc in absurd (omega arith)
-
-  pub count-sound : (t : Tally) → Sound t ≡ tallied sought nothing 0 w → Count t.frames ≡ count_of w
+  pub count-sound : (t : Tally) → Ok t ≡ tallied sought nothing 0 w → Ok t.frames ≡ count_of w
   count-sound t = go w
     where
-      go : (w : Walked) → Sound t ≡ tallied sought nothing 0 w → Count t.frames ≡ count_of w
+      go : (w : Walked) → Ok t ≡ tallied sought nothing 0 w → Ok t.frames ≡ count_of w
       go (broken q) e = let z : ◌≡◌ {A = ℕ} 0 1 = cc in absurd (omega arith)
-      go (sound c) e = let same : t ≡ counted_all sought nothing (frames_of 0 c) = cc in rw same (ap Count (frames-counted sought nothing (frames_of 0 c) ∙ zero-add (length (frames_of 0 c))))
+      go (sound c) e = let same : t ≡ counted_all sought nothing (frames_of 0 c) = cc in rw same (ap Ok (frames-counted sought nothing (frames_of 0 c) ∙ zero-add (length (frames_of 0 c))))
 
-  pub found-broken : (r : Refusal) → Broken r ≡ tallied sought nothing 0 w → Refused r ≡ found_in w sought
-  found-broken r = go w
-    where
-      go : (w : Walked) → Broken r ≡ tallied sought nothing 0 w → Refused r ≡ found_in w sought
-      go (broken q) e = cc
-      go (sound c) e = let z : ◌≡◌ {A = ℕ} 0 1 = cc in absurd (omega arith)
-
-  pub found-sound : (t : Tally) → Sound t ≡ tallied sought nothing 0 w → (sought < t.frames → At t.found ≡ found_in w sought) × (t.frames ≤ sought → Refused PastLastFrame ≡ found_in w sought)
+  pub found-sound : (t : Tally) → Ok t ≡ tallied sought nothing 0 w → (sought < t.frames → Ok t.found ≡ found_in w sought) × (t.frames ≤ sought → Err PastLastFrame ≡ found_in w sought)
   found-sound t = go w
     where
-      go : (w : Walked) → Sound t ≡ tallied sought nothing 0 w → (sought < t.frames → At t.found ≡ found_in w sought) × (t.frames ≤ sought → Refused PastLastFrame ≡ found_in w sought)
+      go : (w : Walked) → Ok t ≡ tallied sought nothing 0 w → (sought < t.frames → Ok t.found ≡ found_in w sought) × (t.frames ≤ sought → Err PastLastFrame ≡ found_in w sought)
       go (broken q) e = let z : ◌≡◌ {A = ℕ} 0 1 = cc in absurd (omega arith)
       go (sound c) e =
           let ps = frames_of 0 c in

@@ -2,8 +2,8 @@
 -- Assumes nothing.
 use Rattle.std.proofs.Common.{◌≡◌, ℕ, zero, suc, ◌+◌, ◌<◌, ◌≤◌, List, ◌∷◌, map, length, replicate, refl, ap, ◌∙◌, ap₂, add-one, arith}
 use Rattle.refusals.specs.declared.Refusal.TheVariants.{PastLastFrame}
-use Rattle.captures.specs.declared.Found.{Found}
-use Rattle.captures.specs.declared.Found.TheVariants.{Refused}
+use Rattle.captures.specs.Answers.{Found}
+use Rattle.std.specs.Prelude.{Err}
 use Rattle.captures.specs.Content.{Content, frames_of}
 use Rattle.captures.specs.Walk.{sound, walk_capture}
 use Rattle.captures.specs.Calls.{found, following}
@@ -36,7 +36,7 @@ module _ (s : List ℕ) (c : Content) (e : walk_capture s ≡ sound c) where
   places (suc n) place h = ap (place_after s n) (goes place (omega arith)) ∙ places n (suc place) (omega arith) ∙ omega arith
 
   -- From the end on nothing is found.
-  beyond : (n : ℕ) → stepped s n last ≡ replicate n (Refused PastLastFrame)
+  beyond : (n : ℕ) → stepped s n last ≡ replicate n (Err PastLastFrame)
   unfolding stepped
   beyond zero = refl
   beyond (suc n) = ap₂ ◌∷◌ (found-past s c e last (omega arith)) (ap (stepped s n) stays ∙ beyond n)

@@ -1,13 +1,13 @@
 -- The frames that are found lie in the capture, and their numbers are small.
 -- Assumes nothing.
-use Rattle.std.proofs.Common.{◌≡◌, ℕ, zero, suc, ◌+◌, ◌^◌, ◌<◌, ◌≤◌, true, List, [], ◌∷◌, ◌++◌, map, length, take, drop, sym, refl, ap, ◌∙◌, mod-eq_of_lt, arith, length-drop, lt-ltb}
+use Rattle.std.proofs.Common.{◌≡◌, ℕ, zero, suc, ◌+◌, ◌^◌, ◌<◌, ◌≤◌, true, List, [], ◌∷◌, map, length, take, drop, sym, refl, ap, ◌∙◌, mod-eq_of_lt, arith, length-drop, lt-ltb}
 use native.Mathlib.Decide.{ℕ_discrete}
 use lib.Seq.{take-append-le, drop-append-le}
-use Rattle.refusals.specs.declared.Answer.TheVariants.{Count}
+use Rattle.std.specs.Prelude.{Ok, Err}
+use Rattle.std.specs.List.{AllByRecursion}
 use Rattle.refusals.specs.Signed.{capped}
 use Rattle.captures.specs.declared.Part.{Part}
-use Rattle.captures.specs.declared.Found.{Found}
-use Rattle.captures.specs.declared.Found.TheVariants.{At, Refused}
+use Rattle.captures.specs.Answers.{Found}
 use Rattle.captures.specs.Layout.{capture_limit, depth_limit, entry_count, head_size, size_at, offset_at, entries_sound, is_frame}
 use Rattle.captures.specs.Content.{Content, none, frame, group, head_size_of, Inside, frames_of}
 use Rattle.captures.specs.Walk.{Walked, broken, sound, walk_capture}
@@ -18,32 +18,27 @@ use Rattle.captures.proofs.Finds.{entry-sound, head-found}
 use Rattle.captures.proofs.Heads.{within}
 use Rattle.captures.proofs.Sizes.{section_size_lem, frames-found}
 use Rattle.captures.proofs.ReadBack.{capture_found, read_back}
-use Rattle.captures.proofs.Apart.{numbered-ends}
+use Rattle.captures.proofs.Apart.{each_append, numbered-ends}
 use Rattle.captures.proofs.Listing.{frames-apart, every_frame}
 
 -- Of a list of parts: the number of one that is there, and what holds of its bytes.
-numbered_few : (ps : List Part) (n : ℕ) (p : Part) → numbered ps n ≡ At p → n < length ps
+numbered_few : (ps : List Part) (n : ℕ) (p : Part) → numbered ps n ≡ Ok p → n < length ps
 unfolding numbered
 numbered_few [] n p e = let z : ◌≡◌ {A = ℕ} 0 1 = cc in absurd (omega arith)
 numbered_few (q ∷ ps) zero p e = omega arith
 numbered_few (q ∷ ps) (suc n) p e = omega (arith, numbered_few ps n p e)
 
 abbrev EachFrame : List (List ℕ) → Type 0
-EachFrame [] = Unit {0}
-EachFrame (b ∷ bs) = (is_frame b ≡ true) × EachFrame bs
-
-each_append : (ds bs : List (List ℕ)) → EachFrame ds → EachFrame bs → EachFrame (ds ++ bs)
-each_append [] bs h k = k
-each_append (d ∷ ds) bs h k = (h.0, each_append ds bs h.1 k)
+EachFrame = AllByRecursion (λ b. is_frame b ≡ true)
 
 leaves-frames : (levels : ℕ) (c : Content) → Inside levels c → EachFrame (leaves c)
 unfolding leaves Inside
 leaves-frames levels none h = tt
 leaves-frames levels (frame body d) h = (h.0, leaves-frames levels d h.1)
 leaves-frames zero (group b d) h = absurd h
-leaves-frames (suc levels) (group b d) h = each_append (leaves b) (leaves d) (leaves-frames levels b h.1) (leaves-frames (suc levels) d h.2)
+leaves-frames (suc levels) (group b d) h = each_append _ (leaves b) (leaves d) (leaves-frames levels b h.1) (leaves-frames (suc levels) d h.2)
 
-numbered-frame : (bytes : Part → List ℕ) (ps : List Part) (n : ℕ) (p : Part) → EachFrame (map bytes ps) → numbered ps n ≡ At p → is_frame (bytes p) ≡ true
+numbered-frame : (bytes : Part → List ℕ) (ps : List Part) (n : ℕ) (p : Part) → EachFrame (map bytes ps) → numbered ps n ≡ Ok p → is_frame (bytes p) ≡ true
 unfolding numbered
 numbered-frame bytes [] n p h e = let z : ◌≡◌ {A = ℕ} 0 1 = cc in absurd (omega arith)
 numbered-frame bytes (q ∷ ps) zero p h e =
@@ -55,23 +50,23 @@ numbered-frame bytes (q ∷ ps) (suc n) p h e = numbered-frame bytes ps n p h.1 
 pub record Among (s : List ℕ) (n : ℕ) (p : Part) : Type 0 where
   pub content : Content
   pub walked : walk_capture s ≡ sound content
-  pub listed : numbered (frames_of 0 content) n ≡ At p
+  pub listed : numbered (frames_of 0 content) n ≡ Ok p
 
-pub among : (s : List ℕ) (n : ℕ) (p : Part) → found s n ≡ At p → Among s n p
+pub among : (s : List ℕ) (n : ℕ) (p : Part) → found s n ≡ Ok p → Among s n p
 among s n p e = go (walk_capture s) refl e
   where
-    go : (w : Walked) → walk_capture s ≡ w → found_in w n ≡ At p → Among s n p
+    go : (w : Walked) → walk_capture s ≡ w → found_in w n ≡ Ok p → Among s n p
     go (broken r) f e = let z : ◌≡◌ {A = ℕ} 0 1 = cc in absurd (omega arith)
     go (sound c) f e = record { content = c; walked = f; listed = e }
 
 -- Its number is below the limit of captures, and it ends in the capture.
-found_few : (s : List ℕ) (n : ℕ) (p : Part) → found s n ≡ At p → n < capture_limit
+found_few : (s : List ℕ) (n : ℕ) (p : Part) → found s n ≡ Ok p → n < capture_limit
 found_few s n p e =
     let a = among s n p e in
     let h = capture_found s a.content a.walked in
     omega (arith, numbered_few (frames_of 0 a.content) n p a.listed, frames-found depth_limit 0 s a.content h.1, h.0)
 
-found-ends : (s : List ℕ) (n : ℕ) (p : Part) → found s n ≡ At p → p.start + p.size ≤ length s
+found-ends : (s : List ℕ) (n : ℕ) (p : Part) → found s n ≡ Ok p → p.start + p.size ≤ length s
 found-ends s n p e =
     let a = among s n p e in
     let c = a.content in
@@ -112,11 +107,11 @@ nothing_past s e =
 
 -- It has a next number in 64 bits.
 pub following_fits : (s : List ℕ) (n : ℕ) (f : Found) → f ≡ found s n → following_word n f ≡ following n f
-following_fits s n (At p) e = mod-eq_of_lt (omega (arith, found_few s n p (sym e)))
-following_fits s n (Refused r) e = refl
+following_fits s n (Ok p) e = mod-eq_of_lt (omega (arith, found_few s n p (sym e)))
+following_fits s n (Err r) e = refl
 
 -- Counts and places fit a signed number.
-count_fits : (n : ℕ) → n ≤ capture_limit → capped (Count n) ≡ Count n
+count_fits : (n : ℕ) → n ≤ capture_limit → capped (Ok n) ≡ Ok n
 count_fits n h = simp (lt-ltb n (2 ^ 63) (omega (arith, h)))
 
 pub frames_fits : (s : List ℕ) → capped (frames s) ≡ frames s
@@ -132,10 +127,10 @@ told_fits : (number : Part → ℕ) → ((p : Part) → number p ≤ p.start + p
 told_fits number small s n = go (found s n) refl
   where
     go : (f : Found) → found s n ≡ f → capped (told number f) ≡ told number f
-    go (At p) e =
+    go (Ok p) e =
         let a = among s n p e in
         count_fits (number p) (omega (arith, small p, found-ends s n p e, (capture_found s a.content a.walked).0))
-    go (Refused r) e = refl
+    go (Err r) e = refl
 
 pub start_fits : (s : List ℕ) (n : ℕ) → capped (start_of (found s n)) ≡ start_of (found s n)
 start_fits = told_fits (λ p. p.start) (λ p. omega arith)

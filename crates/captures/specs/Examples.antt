@@ -1,8 +1,7 @@
 -- The parts of a frame's body, and the sample of document 02 (C-19).
 use Rattle.std.specs.Prelude.{◌≡◌, ℕ, List, [], ◌∷◌, ◌++◌, replicate}
 use Rattle.refusals.specs.declared.Refusal.TheVariants.{PastLastFrame}
-use Rattle.refusals.specs.declared.Answer.TheVariants.{Count}
-use Rattle.captures.specs.declared.Found.TheVariants.{At, Refused}
+use Rattle.std.specs.Prelude.{Ok, Err}
 use Rattle.captures.specs.Layout.{number, identifier_part, code_part, nonce_part, data_part}
 use Rattle.captures.specs.Content.{part_of}
 use Rattle.captures.specs.Calls.{frames, found, body_of}
@@ -18,10 +17,10 @@ sample =
     ∷ replicate 12 0
 
 pub record Sample : Type 0 where
-  pub counts : frames sample ≡ Count 1
-  pub finds : found sample 0 ≡ At (part_of 10 17)
+  pub counts : frames sample ≡ Ok 1
+  pub finds : found sample 0 ≡ Ok (part_of 10 17)
   pub identifier : number (identifier_part (body_of sample (found sample 0))) ≡ 0x123
   pub code : number (code_part (body_of sample (found sample 0))) ≡ 0
   pub nonce : nonce_part (body_of sample (found sample 0)) ≡ replicate 12 0
   pub no_data : data_part (body_of sample (found sample 0)) ≡ []
-  pub past : found sample 1 ≡ Refused PastLastFrame
+  pub past : found sample 1 ≡ Err PastLastFrame

@@ -1,6 +1,8 @@
 pub mod Layout
 pub mod Content
 pub mod Walk
+pub mod Answers
+pub mod Reading
 pub mod Tallies
 pub mod Calls
 pub mod ReadBack

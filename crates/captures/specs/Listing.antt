@@ -2,9 +2,8 @@
 use Rattle.std.specs.Prelude.{◌≡◌, ℕ, zero, suc, ◌+◌, ◌<◌, ◌≤◌, true, List, [], ◌∷◌, ◌++◌, map, length}
 use Rattle.bits.specs.Bytes.{Bytes}
 use Rattle.refusals.specs.declared.Refusal.TheVariants.{PastLastFrame}
-use Rattle.refusals.specs.declared.Answer.TheVariants.{Count}
+use Rattle.std.specs.Prelude.{Ok, Err}
 use Rattle.captures.specs.declared.Part.{Part}
-use Rattle.captures.specs.declared.Found.TheVariants.{At, Refused}
 use Rattle.captures.specs.Layout.{part, entry_count, head_size, size_at, offset_at, head_sound, is_frame}
 use Rattle.captures.specs.Content.{Content, none, frame, group, head_size_of, section_size, written, Legal, part_of, frames_of}
 use Rattle.captures.specs.Calls.{frames, found}
@@ -62,10 +61,10 @@ bytes_at s p = part p.start p.size s
 -- Of a capture with a content: the count is that of its leaves; the parts that are found by number have the leaves' bytes, in walking order; none is
 -- found under two numbers, and no two overlap; together with the heads they fill the capture.
 pub record Listed (s : List ℕ) (c : Content) : Type 0 where
-  pub counts : frames s ≡ Count (length (leaves c))
-  pub finds : map (found s) (count_up (length (leaves c)) 0) ≡ map At (frames_of 0 c)
-  pub past : (number : ℕ) → length (leaves c) ≤ number → found s number ≡ Refused PastLastFrame
-  pub once : (m n : ℕ) (p : Part) → found s m ≡ At p → found s n ≡ At p → m ≡ n
+  pub counts : frames s ≡ Ok (length (leaves c))
+  pub finds : map (found s) (count_up (length (leaves c)) 0) ≡ map Ok (frames_of 0 c)
+  pub past : (number : ℕ) → length (leaves c) ≤ number → found s number ≡ Err PastLastFrame
+  pub once : (m n : ℕ) (p : Part) → found s m ≡ Ok p → found s n ≡ Ok p → m ≡ n
   pub bytes : map (bytes_at s) (frames_of 0 c) ≡ leaves c
   pub apart : Apart 0 (length s) (frames_of 0 c)
   pub frames : frames_among (pieces c) ≡ frames_of 0 c
@@ -82,7 +81,7 @@ pub record LiesIn (s : List ℕ) (p : Part) : Type 0 where
   pub body : is_frame (bytes_at s p) ≡ true
 
 abbrev pub FoundInside : Type 0
-FoundInside = (s : List ℕ) (number : ℕ) (p : Part) → Bytes s → found s number ≡ At p → LiesIn s p
+FoundInside = (s : List ℕ) (number : ℕ) (p : Part) → Bytes s → found s number ≡ Ok p → LiesIn s p
 
 -- The walk looks at no byte past the capture. Where the head of a section is sound, each of its entries lies in it, and so does the body that the entry
 -- names, which is all that is walked further; and a part that lies in a string is the same whatever stands behind the string.

@@ -3,8 +3,7 @@ use Rattle.std.specs.Prelude.{◌≡◌, ℕ, ◌≤◌, ◌⊎◌, ◌↔◌, L
 use Rattle.bits.specs.Bytes.{Bytes}
 use Rattle.refusals.specs.declared.Refusal.{Refusal}
 use Rattle.refusals.specs.declared.Refusal.TheVariants.{BrokenCapture, TooDeep}
-use Rattle.refusals.specs.declared.Answer.TheVariants as answer
-use Rattle.captures.specs.declared.Found.TheVariants.{Refused}
+use Rattle.std.specs.Prelude.{Err}
 use Rattle.captures.specs.Layout.{capture_limit, entry_limit}
 use Rattle.captures.specs.Content.{Content, entry_count_of, section_size, written, Inside, Legal}
 use Rattle.captures.specs.Walk.{walk_capture, broken, sound}
@@ -25,8 +24,8 @@ Deep = (c : Content) (levels : ℕ) → entry_count_of c ≤ entry_limit → Ins
 
 -- A broken capture hands out nothing: every call gives the refusal, a body is empty, and a step leaves the reader where it is.
 pub record HandsOutNothing (s : List ℕ) (r : Refusal) : Type 0 where
-  pub counts : frames s ≡ answer.Refused r
-  pub finds : (number : ℕ) → found s number ≡ Refused r
+  pub counts : frames s ≡ Err r
+  pub finds : (number : ℕ) → found s number ≡ Err r
   pub body : (number : ℕ) → body_of s (found s number) ≡ []
   pub stays : (number : ℕ) → following number (found s number) ≡ number
 

@@ -2,8 +2,8 @@
 use Rattle.std.specs.Prelude.{ℕ, ◌+◌, cond, List, [], ◌∷◌, ◌==◌}
 use Rattle.captures.specs.declared.Part.{Part}
 use Rattle.captures.specs.declared.walk.Tally.{Tally}
-use Rattle.captures.specs.declared.walk.Tallied.{Tallied}
-use Rattle.captures.specs.declared.walk.Tallied.TheVariants.{Broken, Sound}
+use Rattle.captures.specs.Answers.{Tallied}
+use Rattle.std.specs.Prelude.{Ok, Err}
 use Rattle.captures.specs.Content.{frames_of, part_of}
 use Rattle.captures.specs.Walk.{Walked, broken, sound}
 
@@ -17,8 +17,8 @@ counted_all sought t (p ∷ ps) = counted_all sought (counted sought t p) ps
 
 -- What a section that begins at `base` comes to.
 abbrev pub tallied : (sought : ℕ) → Tally → (base : ℕ) → Walked → Tallied
-tallied sought t base (broken r) = Broken r
-tallied sought t base (sound c) = Sound (counted_all sought t (frames_of base c))
+tallied sought t base (broken r) = Err r
+tallied sought t base (sound c) = Ok (counted_all sought t (frames_of base c))
 
 -- Where the counting begins.
 abbrev pub nothing : Tally

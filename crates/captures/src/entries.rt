@@ -1,8 +1,23 @@
 // The head of a section: its entry count and its entries.
 ghost use Rattle.std.specs.Prelude.{◌≡◌, ◌+◌, ◌<◌, ◌≤◌, length};
 ghost use Rattle.captures.specs.Layout.{entry_limit, entry_count, head_size, kind_at, size_at, offset_at, head_sound};
+ghost use Rattle.captures.specs.Reading.{entry_of};
 
 use crate::numbers;
+
+// What a body is.
+#[derive(Clone, Copy)]
+pub enum Kind {
+    Frame,
+    Group,
+}
+
+// What an entry says of its body: the kind and the length.
+#[derive(Clone, Copy)]
+pub struct Entry {
+    pub kind: Kind,
+    pub size: usize,
+}
 
 // The number of entries that a section announces.
 pub fn count(s: &[u8]) -> usize
@@ -12,21 +27,21 @@ pub fn count(s: &[u8]) -> usize
     numbers::number_at(s, 0, 2)
 }
 
-// What entry k says: the kind of its body, the length, the offset.
-pub fn kind(s: &[u8], k: usize) -> usize
+// Entry k, unless its kind is none of the two.
+pub fn read(s: &[u8], k: usize) -> Option<Entry>
     requires { (k < entry_limit) × (head_size (k + 1) ≤ length s.now) }
-    ensures { result ≡ kind_at k s.now }
+    ensures { result ≡ entry_of (kind_at k s.now) (size_at k s.now) }
 {
-    numbers::number_at(s, 2 + 8 * k, 1)
+    let kind = match numbers::number_at(s, 2 + 8 * k, 1) {
+        0 => Kind::Frame,
+        1 => Kind::Group,
+        _ => return None,
+    };
+    let size = numbers::number_at(s, 2 + 8 * k + 1, 3);
+    Some(Entry { kind, size })
 }
 
-pub fn size(s: &[u8], k: usize) -> usize
-    requires { (k < entry_limit) × (head_size (k + 1) ≤ length s.now) }
-    ensures { result ≡ size_at k s.now }
-{
-    numbers::number_at(s, 2 + 8 * k + 1, 3)
-}
-
+// The offset of its body from the section's start.
 fn offset(s: &[u8], k: usize) -> usize
     requires { (k < entry_limit) × (head_size (k + 1) ≤ length s.now) }
     ensures { result ≡ offset_at k s.now }
@@ -49,16 +64,14 @@ pub fn sound(s: &[u8]) -> bool
     if s.len() < place {
         return false;
     }
-    let mut k = 0;
-    while k < entries {
-        if 1 < kind(s, k) {
+    for k in 0..entries {
+        let Some(entry) = read(s, k) else {
             return false;
-        }
+        };
         if offset(s, k) != place {
             return false;
         }
-        place += size(s, k);
-        k += 1;
+        place += entry.size;
     }
     place == s.len()
 }

@@ -11,8 +11,7 @@ mod walk;
 ghost use Rattle.std.specs.Prelude.{◌≡◌};
 ghost use Rattle.captures.specs.Calls as calls;
 
-use refusals::{Answer, Refusal};
-use walk::Tallied;
+use refusals::Refusal;
 
 // The number of a frame, from 0 in walking order.
 #[derive(Clone, Copy)]
@@ -25,51 +24,33 @@ pub struct Part {
     pub size: usize,
 }
 
-// What looking for a frame finds.
-#[derive(Clone, Copy)]
-pub enum Found {
-    At(Part),
-    Refused(Refusal),
-}
-
 // How many frames a capture has.
-pub fn frames(capture: &[u8]) -> Answer
+pub fn frames(capture: &[u8]) -> Result<usize, Refusal>
     ensures { result ≡ calls.frames capture.now }
 {
-    match walk::capture(capture, FrameNumber(0)) {
-        Tallied::Broken(r) => Answer::Refused(r),
-        Tallied::Sound(t) => Answer::Count(t.frames),
-    }
+    let t = walk::capture(capture, FrameNumber(0))?;
+    Ok(t.frames)
 }
 
 // Where a frame lies.
-pub fn find(capture: &[u8], number: FrameNumber) -> Found
+pub fn find(capture: &[u8], number: FrameNumber) -> Result<Part, Refusal>
     ensures { result ≡ calls.found capture.now number.0 }
 {
-    match walk::capture(capture, number) {
-        Tallied::Broken(r) => Found::Refused(r),
-        Tallied::Sound(t) => {
-            if (number.0 as usize) < t.frames {
-                let found = t.found;
-                Found::At(found)
-            } else {
-                Found::Refused(Refusal::PastLastFrame)
-            }
-        }
+    let t = walk::capture(capture, number)?;
+    if (number.0 as usize) < t.frames {
+        Ok(t.found)
+    } else {
+        Err(Refusal::PastLastFrame)
     }
 }
 
 // The bytes of a frame that was found, a part of the capture; empty on refusal.
-pub fn found_body(capture: &[u8], found: Found) -> &[u8]
+pub fn found_body(capture: &[u8], found: Result<Part, Refusal>) -> &[u8]
     ensures { result.now ≡ calls.body_of capture.now found }
 {
     match found {
-        Found::At(p) => {
-            let start = p.start;
-            let size = p.size;
-            parts::part(capture, start, size)
-        }
-        Found::Refused(_) => &capture[..0],
+        Ok(p) => parts::part(capture, p.start, p.size),
+        Err(_) => &capture[..0],
     }
 }
 
@@ -81,30 +62,24 @@ pub fn frame(capture: &[u8], number: FrameNumber) -> &[u8]
 }
 
 // Where the body of a frame begins in the capture, and its length.
-pub fn frame_start(capture: &[u8], number: FrameNumber) -> Answer
+pub fn frame_start(capture: &[u8], number: FrameNumber) -> Result<usize, Refusal>
     ensures { result ≡ calls.start_of (calls.found capture.now number.0) }
 {
-    match find(capture, number) {
-        Found::At(p) => Answer::Count(p.start),
-        Found::Refused(r) => Answer::Refused(r),
-    }
+    find(capture, number).map(|p| p.start)
 }
 
-pub fn frame_size(capture: &[u8], number: FrameNumber) -> Answer
+pub fn frame_size(capture: &[u8], number: FrameNumber) -> Result<usize, Refusal>
     ensures { result ≡ calls.size_of (calls.found capture.now number.0) }
 {
-    match find(capture, number) {
-        Found::At(p) => Answer::Count(p.size),
-        Found::Refused(r) => Answer::Refused(r),
-    }
+    find(capture, number).map(|p| p.size)
 }
 
 // The number after a frame that was found; the same on refusal. It is one of 64 bits.
-pub fn following(number: FrameNumber, found: Found) -> FrameNumber
+pub fn following(number: FrameNumber, found: Result<Part, Refusal>) -> FrameNumber
     ensures { result.0 ≡ calls.following_word number.0 found }
 {
     match found {
-        Found::At(_) => FrameNumber(std::num::wrapping_add_u64(number.0, 1)),
-        Found::Refused(_) => number,
+        Ok(_) => FrameNumber(number.0.wrapping_add(1)),
+        Err(_) => number,
     }
 }

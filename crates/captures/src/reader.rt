@@ -2,7 +2,8 @@
 ghost use Rattle.std.specs.Prelude.{◌≡◌};
 ghost use Rattle.captures.specs.Calls as calls;
 
-use crate::{Found, FrameNumber};
+use crate::{FrameNumber, Part};
+use refusals::Refusal;
 
 #[derive(Drop)]
 pub struct Reader<'a> {
@@ -13,7 +14,7 @@ pub struct Reader<'a> {
 // What a step gives: what was found, and the frame's body, a part of the capture, empty on refusal.
 #[derive(Drop)]
 pub struct Stepped<'a> {
-    pub found: Found,
+    pub found: Result<Part, Refusal>,
     pub body: &'a [u8],
 }
 

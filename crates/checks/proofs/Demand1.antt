@@ -5,8 +5,7 @@ use mathlib.Core.Bool.{false}
 use mathlib.Core.List.{List, map}
 use Prim.Native.Nat.{ℕ}
 use Rattle.refusals.specs.declared.Refusal.{Refusal}
-use Rattle.refusals.specs.declared.Check.TheVariants.{Passed}
-use Rattle.refusals.specs.Refusals.{Row, among, check}
+use Rattle.refusals.specs.Refusals.{Row, among, check, passed}
 use Rattle.refusals.specs.Outcome.{judged}
 use Rattle.refusals.specs.Demand1.{Clear}
 use Rattle.refusals.proofs.Demand1 as any_call
@@ -30,10 +29,10 @@ module _ (rs : List Refusal) (rows : List Row) (listed : map (λ row. row.refusa
   none_at_all clear = no_other rows (subst (λ (qs : List Refusal). Clear qs (among rows)) (sym listed) clear)
 
   -- The rows pass exactly when none applies.
-  pub passed_quiet : check rs (among rows) ≡ Passed → Quiet rows
+  pub passed_quiet : check rs (among rows) ≡ passed → Quiet rows
   passed_quiet e = none_at_all ((any_call.decides (among rows) rs).passes.0 e)
 
-  pub quiet_passed : Quiet rows → check rs (among rows) ≡ Passed
+  pub quiet_passed : Quiet rows → check rs (among rows) ≡ passed
   quiet_passed quiet = (any_call.decides (among rows) rs).passes.1 (λ r listed. quiet r)
 
   pub demand1 : (written out : List ℕ) → Demand1 rs (among rows) written out (judged rs (among rows) written out)

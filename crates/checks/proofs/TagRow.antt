@@ -5,9 +5,7 @@ use mathlib.Core.Bool.{Bool, false}
 use mathlib.Core.List.{List, [], ◌∷◌, ◌++◌, map}
 use Rattle.refusals.specs.declared.Refusal.{Refusal}
 use Rattle.refusals.specs.declared.Refusal.TheVariants.{TagDiffers}
-use Rattle.refusals.specs.declared.Check.{Check}
-use Rattle.refusals.specs.declared.Check.TheVariants.{Passed}
-use Rattle.refusals.specs.Refusals.{Row, among, after, check}
+use Rattle.refusals.specs.Refusals.{Check, Row, among, after, check, passed}
 use Rattle.refusals.proofs.LastRow.{after_false, check-last}
 use Rattle.refusals.proofs.Rows.{Quiet}
 use Rattle.checks.proofs.Demand1 as rows_of
@@ -30,8 +28,8 @@ module _ {before order : List Refusal} {rows : Bool → List Row} {judgement : C
   all-rows = check-rows false ∙ after_false judgement TagDiffers
 
   -- Those before the tag's pass exactly when none of them applies.
-  pub passed_quiet : judgement ≡ Passed → Quiet (rows false)
+  pub passed_quiet : judgement ≡ passed → Quiet (rows false)
   passed_quiet e = rows_of.passed_quiet order (rows false) (t.listed false) (all-rows ∙ e)
 
-  pub quiet_passed : Quiet (rows false) → judgement ≡ Passed
+  pub quiet_passed : Quiet (rows false) → judgement ≡ passed
   quiet_passed quiet = sym all-rows ∙ rows_of.quiet_passed order (rows false) (t.listed false) quiet

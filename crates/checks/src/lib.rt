@@ -6,7 +6,7 @@ ghost use Rattle.refusals.specs.Refusals as refusals;
 ghost use Rattle.checks.specs.Order.{before_tag};
 ghost use Rattle.checks.specs.Rows.{rows};
 
-use refusals::{Check, Refusal};
+use refusals::Refusal;
 
 // The first of these rows that applies, where the AD has a limit. Whether rows 4 to 6 apply is the caller's to say.
 pub fn judge(
@@ -17,11 +17,11 @@ pub fn judge(
     too_long: bool,
     too_short: bool,
     no_room: bool,
-) -> Check
+) -> Result<(), Refusal>
     ensures { result ≡ refusals.check before_tag (rows limit key.now nonce.now ad.now too_long too_short no_room false) }
 {
     let blank = key::is_blank(key);
-    let c = refusals::after(Check::Passed, Refusal::KeySize, key.len() != 16);
+    let c = refusals::after(Ok(()), Refusal::KeySize, key.len() != 16);
     let c = refusals::after(c, Refusal::NonceSize, nonce.len() != 12);
     let c = refusals::after(c, Refusal::BlankKey, blank);
     let c = refusals::after(c, Refusal::AdTooLong, limit < ad.len());

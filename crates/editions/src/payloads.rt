@@ -4,7 +4,6 @@ use crate::shown;
 use crate::shown::Hex;
 use grain128aead::by_edition;
 use machine::edition::Edition;
-use refusals::Answer;
 use std::io;
 
 const EDITIONS: [(&str, Edition); 2] = [
@@ -22,8 +21,8 @@ fn sealed(
 ) -> io::Result<()> {
     let mut out = [0u8; 64];
     match by_edition::seal(edition, &KEY, &NONCE, ad, message, &mut out) {
-        Answer::Count(n) => shown::value(rt, name, Hex(&out[..n])),
-        Answer::Refused(_) => shown::title(rt, "  refused"),
+        Ok(n) => shown::value(rt, name, Hex(&out[..n])),
+        Err(_) => shown::title(rt, "  refused"),
     }
 }
 

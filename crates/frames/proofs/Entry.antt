@@ -11,13 +11,10 @@ use lib.Seq.{take_at, drop_at, set_split, drop-drop}
 use borrow.Rule.Slice.PartMut.{mid_of, put_mid, same_len_mid, mid_len}
 use Rattle.bits.specs.Bytes.{word, bytes}
 use Rattle.bits.proofs.Spelling.{bytes-word-cons}
-use Rattle.refusals.specs.declared.Check.{Check}
-use Rattle.refusals.specs.declared.Check.TheVariants.{Passed, Failed}
+use Rattle.refusals.specs.Refusals.{Check, Answer, among, check, passed}
+use Rattle.std.specs.Prelude.{is_ok, IsOk, Ok, Err}
 use Rattle.refusals.specs.declared.Refusal.{Refusal}
-use Rattle.refusals.specs.declared.Answer.{Answer}
-use Rattle.refusals.specs.declared.Answer.TheVariants.{Count, Refused}
-use Rattle.refusals.specs.Refusals.{among, check}
-use Rattle.refusals.specs.Outcome.{Outcome, outcome, settled, judged}
+use Rattle.refusals.specs.Outcome.{Outcome, outcome, settled, judged, success}
 use Rattle.refusals.proofs.Demand1.{decides}
 use Rattle.tagged.proofs.Entry.{open_failed}
 use Rattle.checks.proofs.Demand1.{none_at_all}
@@ -76,11 +73,11 @@ pub record MakeChecked (key nonce : List ℕ) (identifier : ℕ) (message lent :
   pub checked : c ≡ check order.making (among (making_rows key nonce identifier message lent))
 
 module _ {key nonce : List ℕ} {identifier : ℕ} {message lent : List ℕ} {c : Check} (checks : MakeChecked key nonce identifier message lent c) where
-  pub make_failed : (e : Edition) {r : Refusal} → c ≡ Failed r → outcome (Refused r) lent ≡ made e key nonce identifier message lent
+  pub make_failed : (e : Edition) {r : Refusal} → c ≡ Err r → outcome (Err r) lent ≡ made e key nonce identifier message lent
   unfolding made judged settled
   make_failed e h = sym (ap (λ (d : Check). settled d (data_field e key nonce identifier message) lent) (sym checks.checked ∙ h))
 
-  module _ (passed : c ≡ Passed) where
+  module _ (passed : c ≡ passed) where
     pub make_clear : MakingClear key nonce identifier (length message) (length lent)
     make_clear =
         making_clear key nonce identifier (length message) (length lent)
@@ -91,23 +88,38 @@ module _ {key nonce : List ℕ} {identifier : ℕ} {message lent : List ℕ} {c 
     pub make_holds : length message + 9 ≤ field_size (length message)
     make_holds = field_codes.holds (length message) make_clear.message_fits
 
-    -- What sealing writes to a part of just the payload's length is the payload.
-    pub written : (e : Edition) (part : List ℕ) {answer : Answer} {out : List ℕ} → length part ≡ length message + 8
+    -- Sealing to a part of just the payload's length succeeds, and writes the payload.
+    pub seals : (e : Edition) (part : List ℕ) {answer : Answer} {out : List ℕ} → length part ≡ length message + 8
         → outcome answer out ≡ cipher.sealed e key nonce (frame_ad identifier (field_code (length message))) message part
-        → out ≡ payload e key nonce (frame_ad identifier (field_code (length message))) message
-    written e part long is =
-        let ad = frame_ad identifier (field_code (length message)) in
-        let p = payload e key nonce ad message in
-        ap (λ (o : Outcome). o.output) (is ∙ (sealing e key nonce ad message part).seals
+        → outcome answer out ≡ success (payload e key nonce (frame_ad identifier (field_code (length message))) message) part
+    seals e part long is =
+        is ∙ (sealing e key nonce (frame_ad identifier (field_code (length message))) message part).seals
         record {
           key_sized = make_clear.common.key_sized;
           nonce_sized = make_clear.common.nonce_sized;
           key_not_blank = make_clear.common.key_not_blank;
           ad_fits = ad_fits_lem;
           message_fits = omega (arith, make_clear.message_fits, message_fits_lem);
-        } (le_of_eq (sym long)))
+        } (le_of_eq (sym long))
+
+    pub written : (e : Edition) (part : List ℕ) {answer : Answer} {out : List ℕ} → length part ≡ length message + 8
+        → outcome answer out ≡ cipher.sealed e key nonce (frame_ad identifier (field_code (length message))) message part
+        → out ≡ payload e key nonce (frame_ad identifier (field_code (length message))) message
+    written e part long is =
+        let ad = frame_ad identifier (field_code (length message)) in
+        let p = payload e key nonce ad message in
+        ap (λ (o : Outcome). o.output) (seals e part long is)
         ∙ ap (λ (t : List ℕ). p ++ t) (drop_of_length-le part (le_of_eq (long ∙ sym (length-payload e key nonce ad message))))
         ∙ append-nil p
+
+    -- Making seals to such a part of the output, and sealing does not refuse.
+    pub make_seals : (e : Edition) (ad : List ℕ) {answer : Answer} {out : List ℕ} → ad ≡ frame_ad identifier (field_code (length message))
+        → outcome answer out ≡ cipher.sealed e key nonce ad message (mid_of 1 (length message + 9 - 1) (set lent 0 (length message)))
+        → IsOk answer
+    make_seals e ad its sealed =
+        let part : length (mid_of 1 (length message + 9 - 1) (set lent 0 (length message))) ≡ length message + 9 - 1 =
+        mid_len 1 (length message + 9) (set lent 0 (length message)) (omega (arith, length-set lent 0 (length message), make_holds, make_clear.fits)) in
+        ap (λ (o : Outcome). is_ok o.answer) (seals e (mid_of 1 (length message + 9 - 1) (set lent 0 (length message))) (omega (arith, part)) (rw its at sealed))
 
     -- What the walk of the code leaves in the output: M, then what sealing wrote to p, then the bytes z of zero.
     module _ (e : Edition) (p z : List ℕ) where
@@ -120,13 +132,13 @@ module _ {key nonce : List ℕ} {identifier : ℕ} {message lent : List ℕ} {c 
       pub make_passed : (ad : List ℕ) (size : ℕ) {answer : Answer} → ad ≡ frame_ad identifier (field_code (m)) → size ≡ field_size (m)
           → outcome answer p ≡ cipher.sealed e key nonce ad message (mid_of 1 (m + 9 - 1) (set lent 0 (m)))
           → z ≡ bytes (length (mid_of (m + 9) (size - (m + 9)) sealed_output)) (word (8 * length (mid_of (m + 9) (size - (m + 9)) sealed_output)) 0)
-          → outcome (Count size) (put_mid (m + 9) (size - (m + 9)) sealed_output z) ≡ made e key nonce identifier message lent
+          → outcome (Ok size) (put_mid (m + 9) (size - (m + 9)) sealed_output z) ≡ made e key nonce identifier message lent
       unfolding data_field
       make_passed ad size {answer} its field_sized sealed spelled =
-          ap₂ outcome (ap Count field_sized)
+          ap₂ outcome (ap Ok field_sized)
           (ap (put_mid (m + 9) (size - (m + 9)) sealed_output) zeros ∙ with-zeros m size p lent long holds room
           ∙ ap₂ (λ (s : List ℕ) (n : ℕ). ((m ∷ s) ++ replicate (n - (m + 9)) 0) ++ drop n lent) wrote field_sized)
-          ∙ ap (λ (n : ℕ). outcome (Count n) (data_field e key nonce identifier message ++ drop n lent)) (sym (sized e key nonce identifier message make_clear.message_fits))
+          ∙ ap (λ (n : ℕ). outcome (Ok n) (data_field e key nonce identifier message ++ drop n lent)) (sym (sized e key nonce identifier message make_clear.message_fits))
           ∙ sym ((making e key nonce identifier message lent).makes (record { common = make_clear.common; message_fits = make_clear.message_fits }) make_clear.fits)
         where
           holds : m + 9 ≤ size
@@ -156,11 +168,11 @@ pub record ReadChecked (key nonce : List ℕ) (identifier code : ℕ) (field len
   pub checked : c ≡ judgement key nonce identifier code field (length lent)
 
 module _ {key nonce : List ℕ} {identifier code : ℕ} {field lent : List ℕ} {c : Check} (checks : ReadChecked key nonce identifier code field lent c) where
-  pub read_failed : (e : Edition) {r : Refusal} → c ≡ Failed r → outcome (Refused r) lent ≡ read e key nonce identifier code field lent
+  pub read_failed : (e : Edition) {r : Refusal} → c ≡ Err r → outcome (Err r) lent ≡ read e key nonce identifier code field lent
   unfolding wrong_tag recovered
   read_failed e h = open_failed (payloads.cipher e key nonce (frame_ad identifier code)) (sealed_part field) lent _ _ (read-settled e key nonce identifier code field lent) (sym checks.checked ∙ h)
 
-  module _ (passed : c ≡ Passed) where
+  module _ (passed : c ≡ passed) where
     read_clear : ReadingClear key nonce identifier code field (length lent) false
     read_clear = passed_clear key nonce identifier code field (length lent) (sym checks.checked ∙ passed)
 

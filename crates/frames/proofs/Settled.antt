@@ -10,9 +10,8 @@ use lib.Dec.{ltb}
 use lib.ListN.{length, drop, length-drop}
 use lib.Seq.{length-take-le}
 use Rattle.refusals.specs.declared.Refusal.TheVariants.{OutputTooShort, TagDiffers, WrongMessageLength, FillerNotZero}
-use Rattle.refusals.specs.declared.Check.{Check}
-use Rattle.refusals.specs.declared.Check.TheVariants.{Passed, Failed}
-use Rattle.refusals.specs.Refusals.{among, after, check}
+use Rattle.refusals.specs.Refusals.{Check, among, after, check, passed}
+use Rattle.std.specs.Prelude.{Err}
 use Rattle.refusals.specs.Outcome.{Outcome, settled, refused, success, judged}
 use Rattle.refusals.proofs.Demand1.{decides}
 use Rattle.refusals.proofs.LastRow.{after_false, check-last}
@@ -42,13 +41,13 @@ module _ (key nonce : List ℕ) (identifier code : ℕ) (field : List ℕ) (room
   unfolding reading before_tag common reading_rows common_rows among check
   check-rows differs = check-last before_tag TagDiffers (among (reading_rows key nonce identifier code field room differs))
 
-  pub passed_clear : judgement key nonce identifier code field room ≡ Passed → ReadingClear key nonce identifier code field room false
+  pub passed_clear : judgement key nonce identifier code field room ≡ passed → ReadingClear key nonce identifier code field room false
   passed_clear e =
       reading_clear key nonce identifier code field room false
       (none_at_all reading (reading_rows key nonce identifier code field room false) (tabled.of_reading key nonce identifier code field room false)
       ((decides (among (reading_rows key nonce identifier code field room false)) reading).passes.0 (check-rows false ∙ after_false _ TagDiffers ∙ e)))
 
-  pub clear_passed : ReadingClear key nonce identifier code field room false → judgement key nonce identifier code field room ≡ Passed
+  pub clear_passed : ReadingClear key nonce identifier code field room false → judgement key nonce identifier code field room ≡ passed
   clear_passed c =
       (decides (among (reading_rows key nonce identifier code field room false)) before_tag).passes.1 (λ r listed. clear_reading key nonce identifier code field room false c r)
 
@@ -65,7 +64,7 @@ module _ (written out : List ℕ) where
   pass b e c d = ap (λ (t : Bool). settled (cond t c d) written out) e
 
   last_four : (length filler room tag : Bool)
-      → settled (cond length (Failed WrongMessageLength) (cond filler (Failed FillerNotZero) (cond room (Failed OutputTooShort) (cond tag (Failed TagDiffers) Passed)))) written out
+      → settled (cond length (Err WrongMessageLength) (cond filler (Err FillerNotZero) (cond room (Err OutputTooShort) (cond tag (Err TagDiffers) passed)))) written out
       ≡ cond length (refused WrongMessageLength out) (cond filler (refused FillerNotZero out) (cond room (refused OutputTooShort out) (cond tag (refused TagDiffers out) (success written out))))
   unfolding settled
   last_four true filler room tag = refl

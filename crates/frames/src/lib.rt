@@ -15,7 +15,7 @@ ghost use Rattle.frames.specs.Demand2.{Making};
 ghost use Rattle.frames.specs.Promises.{Reading};
 
 use machine::edition::Edition;
-use refusals::Answer;
+use refusals::Refusal;
 
 // The AD of a frame: the identifier, high byte first, then the length code.
 pub fn frame_ad(identifier: u32, code: u32) -> [u8; 5]
@@ -31,7 +31,13 @@ pub fn frame_ad(identifier: u32, code: u32) -> [u8; 5]
 }
 
 // Makes a sealed data field from a message, at the front of the output: M, the ciphertext, the tag, zeros.
-pub fn make(key: &[u8], nonce: &[u8], identifier: u32, message: &[u8], out: &mut [u8]) -> Answer
+pub fn make(
+    key: &[u8],
+    nonce: &[u8],
+    identifier: u32,
+    message: &[u8],
+    out: &mut [u8],
+) -> Result<usize, Refusal>
     ensures made { outcome result out.new ≡ calls.made First key.now nonce.now identifier message.now out.old }
     ensures demand1 { Demand1 order.making (among (calls.making_rows key.now nonce.now identifier message.now out.old)) (fields.data_field First key.now nonce.now identifier message.now) out.old (outcome result out.new) }
     ensures demand2 { Making First key.now nonce.now identifier message.now out.old (outcome result out.new) }
@@ -47,7 +53,7 @@ pub fn read(
     code: u32,
     field: &[u8],
     out: &mut [u8],
-) -> Answer
+) -> Result<usize, Refusal>
     ensures read { outcome result out.new ≡ calls.read First key.now nonce.now identifier code field.now out.old }
     ensures demand1 { Demand1 order.reading (among (calls.reading_rows First key.now nonce.now identifier code field.now out.old)) (calls.recovered First key.now nonce.now identifier code field.now) out.old (outcome result out.new) }
     ensures promises { Reading First key.now nonce.now identifier code field.now out.old (outcome result out.new) }

@@ -7,8 +7,7 @@ use native.Mathlib.Omega.{arith}
 use borrow.Author.Tests.{ltb-false, le-ltb}
 use lib.ListN.{length}
 use Rattle.bits.specs.Bytes.{Bytes}
-use Rattle.refusals.specs.declared.Check.TheVariants.{Passed}
-use Rattle.refusals.specs.Refusals.{among, check}
+use Rattle.refusals.specs.Refusals.{among, check, passed}
 use Rattle.refusals.specs.Outcome.{judged}
 use Rattle.limits.specs.Limits.{message_limit}
 use Rattle.checks.specs.Demand1.{Demand1}
@@ -29,14 +28,14 @@ module _ (w : ℕ) (key nonce message out : List ℕ) where
   unfolding sealed
   demand1_sealing = demand1 order.authenticated (sealing_rows w key nonce message out) ((tabled key nonce).authenticated w _ _ _ _) (payload w key nonce message) out
 
-  pub sealing_fits : sealing_judgement w key nonce message out ≡ Passed → Legal w key nonce message × (length message + tag_size w ≤ length out)
+  pub sealing_fits : sealing_judgement w key nonce message out ≡ passed → Legal w key nonce message × (length message + tag_size w ≤ length out)
   sealing_fits e =
       let c = passed_clear w key nonce _ _ _ e in (
         record { common = c.common; tag_some = c.tag_some; tag_fits = c.tag_fits; message_fits = ltb-false message_limit (length message) c.fits },
         ltb-false (length out) (length message + tag_size w) c.room,
       )
 
-  sealing-passes : Legal w key nonce message → length message + tag_size w ≤ length out → sealing_judgement w key nonce message out ≡ Passed
+  sealing-passes : Legal w key nonce message → length message + tag_size w ≤ length out → sealing_judgement w key nonce message out ≡ passed
   sealing-passes l room = clear_passed w key nonce _ _ _ record {
     common = l.common;
     tag_some = l.tag_some;
@@ -57,7 +56,7 @@ module _ (w : ℕ) (key nonce input out : List ℕ) where
   unfolding opened
   demand1_opening = demand1 order.authenticated (opening_rows w key nonce input out) ((tabled key nonce).authenticated w _ _ _ _) (recovered w key nonce input) out
 
-  pub opening-passes : (m : List ℕ) → Legal w key nonce m → length input ≡ length m + tag_size w → length m ≤ length out → opening_judgement w key nonce input out ≡ Passed
+  pub opening-passes : (m : List ℕ) → Legal w key nonce m → length input ≡ length m + tag_size w → length m ≤ length out → opening_judgement w key nonce input out ≡ passed
   opening-passes m l e room = clear_passed w key nonce _ _ _ record {
     common = l.common;
     tag_some = l.tag_some;
@@ -68,7 +67,7 @@ module _ (w : ℕ) (key nonce input out : List ℕ) where
     authentic = refl;
   }
 
-  opening_fits : opening_judgement w key nonce input out ≡ Passed → (m : List ℕ) → length input ≡ length m + tag_size w → Legal w key nonce m × (length m ≤ length out)
+  opening_fits : opening_judgement w key nonce input out ≡ passed → (m : List ℕ) → length input ≡ length m + tag_size w → Legal w key nonce m × (length m ≤ length out)
   opening_fits p m e =
       let c = passed_clear w key nonce _ _ _ p in (
         record {
@@ -93,12 +92,12 @@ module _ (key nonce message out : List ℕ) where
   unfolding crypted
   demand1_crypting = demand1 order.unauthenticated (crypting_rows key nonce message out) ((tabled key nonce).unauthenticated _ _) (with_keystream key nonce message) out
 
-  pub crypting_fits : check order.unauthenticated (among (crypting_rows key nonce message out)) ≡ Passed → LegalUnauthenticated key nonce message × (length message ≤ length out)
+  pub crypting_fits : check order.unauthenticated (among (crypting_rows key nonce message out)) ≡ passed → LegalUnauthenticated key nonce message × (length message ≤ length out)
   crypting_fits e =
       let c = unauthenticated_clear key nonce _ _ (passed_quiet order.unauthenticated (crypting_rows key nonce message out) ((tabled key nonce).unauthenticated _ _) e) in
       (record { common = c.common; message_fits = ltb-false message_limit (length message) c.fits }, ltb-false (length out) (length message) c.room)
 
-  crypting_passes : LegalUnauthenticated key nonce message → length message ≤ length out → check order.unauthenticated (among (crypting_rows key nonce message out)) ≡ Passed
+  crypting_passes : LegalUnauthenticated key nonce message → length message ≤ length out → check order.unauthenticated (among (crypting_rows key nonce message out)) ≡ passed
   crypting_passes l room =
       quiet_passed order.unauthenticated (crypting_rows key nonce message out) ((tabled key nonce).unauthenticated _ _)
       (clear_unauthenticated key nonce _ _ record { common = l.common; fits = le-ltb message_limit (length message) l.message_fits; room = le-ltb (length out) (length message) room })

@@ -12,12 +12,10 @@ use lib.Seq.{take_all, drop-drop}
 use Rattle.bits.specs.Bytes.{Bytes, word, value}
 use Rattle.bits.specs.Bytes as plain
 use Rattle.bits.specs.Strings.{zeros}
-use Rattle.refusals.specs.declared.Check.{Check}
-use Rattle.refusals.specs.declared.Check.TheVariants.{Passed, Failed}
+use Rattle.refusals.specs.Refusals.{Check, among, after, check, passed}
+use Rattle.std.specs.Prelude.{Ok, Err}
 use Rattle.refusals.specs.declared.Refusal.{Refusal}
 use Rattle.refusals.specs.declared.Refusal.TheVariants.{TagDiffers}
-use Rattle.refusals.specs.declared.Answer.TheVariants.{Count, Refused}
-use Rattle.refusals.specs.Refusals.{among, after, check}
 use Rattle.refusals.specs.Outcome.{outcome, settled, judged}
 use Rattle.refusals.proofs.LastRow.{settled_failed, settled-success}
 use Rattle.limits.specs.Limits.{message_limit}
@@ -98,10 +96,10 @@ pub record SealChecked (w : ℕ) (key nonce message lent : List ℕ) (c : Check)
   pub checked : c ≡ sealing_judgement w key nonce message lent
 
 module _ {w : ℕ} {key nonce message lent : List ℕ} {c : Check} (checks : SealChecked w key nonce message lent c) where
-  pub seal_failed : {r : Refusal} → c ≡ Failed r → outcome (Refused r) lent ≡ sealed w key nonce message lent
+  pub seal_failed : {r : Refusal} → c ≡ Err r → outcome (Err r) lent ≡ sealed w key nonce message lent
   seal_failed e = settled_failed (sealing_judgement w key nonce message lent) (payload w key nonce message) lent (sealed-settled w key nonce message lent) (sym checks.checked ∙ e)
 
-  module _ (e : c ≡ Passed) where
+  module _ (e : c ≡ passed) where
     pub seal_legal : Legal w key nonce message × (length message + tag_size w ≤ length lent)
     seal_legal = sealing_fits w key nonce message lent (sym checks.checked ∙ e)
 
@@ -109,7 +107,7 @@ module _ {w : ℕ} {key nonce message lent : List ℕ} {c : Check} (checks : Sea
         → CryptsAll b.edition true true (state_of b) (take (length lent) message) lent out done
         → TagNumber w (run (state_of done) (true ∷ [])).authenticator.accumulator t
         → written ≡ take (length message) out ++ (plain.bytes (tag_size w) (word (8 * tag_size w) t) ++ drop (tag_size w) (drop (length message) out))
-        → outcome (Count (length message + tag_size w)) written ≡ sealed w key nonce message lent
+        → outcome (Ok (length message + tag_size w)) written ≡ sealed w key nonce message lent
     unfolding cipher payload ciphertext tag bytes_in ordered
     seal_passed {b} {done} {t} {out} {written} began crypted tagged stored =
         entry.sealed_output_lem (cipher w key nonce) (sound w key nonce) message lent out written
@@ -141,10 +139,10 @@ module _ {w : ℕ} {key nonce input lent : List ℕ} {c : Check} (checks : OpenC
       opened-settled w key nonce input lent
       ∙ ap (λ (d : Check). settled (after d TagDiffers (tag_differs w key nonce input)) (recovered w key nonce input) lent) (sym checks.checked)
 
-  pub open_failed : {r : Refusal} → c ≡ Failed r → outcome (Refused r) lent ≡ opened w key nonce input lent
+  pub open_failed : {r : Refusal} → c ≡ Err r → outcome (Err r) lent ≡ opened w key nonce input lent
   open_failed = entry.open_failed (cipher w key nonce) input lent c (opened w key nonce input lent) settles
 
-  module _ (e : c ≡ Passed) where
+  module _ (e : c ≡ passed) where
     pub open_clear : AuthenticatedClear key nonce w (ltb (message_limit + tag_size w) (length input)) (ltb (length input) (tag_size w)) (ltb (length lent) (length input - tag_size w)) false
     open_clear = passed_clear w key nonce _ _ _ (sym checks.checked ∙ e)
 
@@ -180,7 +178,7 @@ module _ {w : ℕ} {key nonce input lent : List ℕ} {c : Check} (checks : OpenC
           )
 
       pub open_passed : {out : List ℕ} → r ≡ n → out ≡ with_keystream First 2 (generator_of b.registers) (take (length lent) part) ++ drop (length (take (length lent) part)) lent
-          → outcome (Count (length input - tag_size w)) out ≡ opened w key nonce input lent
+          → outcome (Ok (length input - tag_size w)) out ≡ opened w key nonce input lent
       unfolding cipher deciphered
       open_passed {out} agrees added =
           entry.open_passed (cipher w key nonce) input lent c (opened w key nonce input lent) settles e (sound w key nonce) (same.0 agrees)
@@ -192,7 +190,7 @@ module _ {w : ℕ} {key nonce input lent : List ℕ} {c : Check} (checks : OpenC
           whole : out ≡ with_keystream First 2 (generator_of b.registers) part ++ drop (length part) lent
           whole = rw (take_all (length lent) part (omega (arith, length-ciphertext_part (tag_size w) input open_reaches, ltb-false (length lent) (length input - tag_size w) open_clear.room))) at added
 
-      pub open_differs : ¬ (r ≡ n) → outcome (Refused TagDiffers) lent ≡ opened w key nonce input lent
+      pub open_differs : ¬ (r ≡ n) → outcome (Err TagDiffers) lent ≡ opened w key nonce input lent
       open_differs differs = entry.open_differs (cipher w key nonce) input lent c (opened w key nonce input lent) settles e (λ a. differs (same.1 a))
 
 -- ---- without authentication
@@ -205,15 +203,15 @@ module _ {key nonce message lent : List ℕ} {c : Check} (checks : CryptChecked 
   unfolding crypted judged
   settles_crypt = ap (λ (d : Check). settled d (grain128a.with_keystream key nonce message) lent) (sym checks.checked)
 
-  pub crypt_failed : {r : Refusal} → c ≡ Failed r → outcome (Refused r) lent ≡ crypted key nonce message lent
+  pub crypt_failed : {r : Refusal} → c ≡ Err r → outcome (Err r) lent ≡ crypted key nonce message lent
   crypt_failed e = settled_failed c (grain128a.with_keystream key nonce message) lent settles_crypt e
 
-  module _ (e : c ≡ Passed) where
+  module _ (e : c ≡ passed) where
     pub crypt-legal : LegalUnauthenticated key nonce message × (length message ≤ length lent)
     crypt-legal = crypting_fits key nonce message lent (sym checks.checked ∙ e)
 
     pub crypt_passed : {g : Generator Bool} {out : List ℕ} → g ≡ warmed key nonce → out ≡ with_keystream First 1 g (take (length lent) message) ++ drop (length (take (length lent) message)) lent
-        → outcome (Count (length message)) out ≡ crypted key nonce message lent
+        → outcome (Ok (length message)) out ≡ crypted key nonce message lent
     crypt_passed {g} {out} warm written =
         untagged.crypted-output (grain128a.with_keystream key nonce) (length-added key nonce) message lent c (crypted key nonce message lent) settles_crypt e
         (whole ∙ ap (λ (t : List ℕ). t ++ drop (length message) lent) (ap (λ (h : Generator Bool). with_keystream First 1 h message) warm ∙ added key nonce message))

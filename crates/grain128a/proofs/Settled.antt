@@ -7,9 +7,7 @@ use Prim.Native.Nat.{ℕ, ◌+◌, ◌-◌}
 use lib.Dec.{ltb}
 use lib.ListN.{length}
 use Rattle.refusals.specs.declared.Refusal.TheVariants.{TagDiffers}
-use Rattle.refusals.specs.declared.Check.{Check}
-use Rattle.refusals.specs.declared.Check.TheVariants.{Passed}
-use Rattle.refusals.specs.Refusals.{among, after, check}
+use Rattle.refusals.specs.Refusals.{Check, among, after, check, passed}
 use Rattle.refusals.specs.Outcome.{settled, judged}
 use Rattle.limits.specs.Limits.{message_limit}
 use Rattle.checks.proofs.TagRow.{TagLast, check-rows, all-rows, passed_quiet, quiet_passed}
@@ -28,10 +26,10 @@ module _ (w : ℕ) (key nonce : List ℕ) (too_long too_short no_room : Bool) wh
   unfolding authenticated before_tag common authenticated_rows common_rows among check
   tag-last = record { ordered = refl; listed = (tabled key nonce).authenticated w too_long too_short no_room; front = λ differs. refl; last = λ differs. refl }
 
-  pub passed_clear : judgement w key nonce too_long too_short no_room ≡ Passed → AuthenticatedClear key nonce w too_long too_short no_room false
+  pub passed_clear : judgement w key nonce too_long too_short no_room ≡ passed → AuthenticatedClear key nonce w too_long too_short no_room false
   passed_clear e = authenticated_clear key nonce w too_long too_short no_room false (passed_quiet tag-last e)
 
-  pub clear_passed : AuthenticatedClear key nonce w too_long too_short no_room false → judgement w key nonce too_long too_short no_room ≡ Passed
+  pub clear_passed : AuthenticatedClear key nonce w too_long too_short no_room false → judgement w key nonce too_long too_short no_room ≡ passed
   clear_passed clear = quiet_passed tag-last (clear_authenticated key nonce w too_long too_short no_room false clear)
 
 abbrev pub sealing_judgement : (w : ℕ) → (key nonce message out : List ℕ) → Check

@@ -28,10 +28,9 @@ pub fn fill(warmed: Registers) -> Engine
 {
     let accumulator = streams::preoutput_word(warmed);
     let register = streams::preoutput_word(accumulator.registers);
-    let registers = register.registers;
     Engine {
         edition: Edition::First,
-        registers,
+        registers: register.registers,
         tagger: Tagger {
             accumulator: accumulator.keystream,
             register: register.keystream,

@@ -10,7 +10,7 @@ use borrow.Author.Tests.{ltb-false, le-ltb}
 use lib.ListN.{length}
 use Rattle.bits.specs.Bytes.{Bytes}
 use Rattle.refusals.specs.declared.Refusal.TheVariants.{TagDiffers}
-use Rattle.refusals.specs.declared.Check.TheVariants.{Passed}
+use Rattle.refusals.specs.Refusals.{passed}
 use Rattle.refusals.specs.Outcome.{refused, success}
 use Rattle.machine.specs.declared.edition.Edition.{Edition}
 use Rattle.key.specs.Sizes.{key_size, nonce_size}
@@ -39,7 +39,7 @@ module _ (ed : Edition) (key nonce ad message out : List ℕ) where
   unfolding sealed
   demand1_sealing = demand1 order (sealing_table key nonce ad message out) (tabled ad_limit key nonce ad _ _ _ _) (payload ed key nonce ad message) out
 
-  passes : Legal key nonce ad message → length message + tag_size ≤ length out → sealing_judgement key nonce ad message out ≡ Passed
+  passes : Legal key nonce ad message → length message + tag_size ≤ length out → sealing_judgement key nonce ad message out ≡ passed
   passes l room = clear_passed key nonce ad _ _ _ record {
     key_sized = l.key_sized;
     nonce_sized = l.nonce_sized;
@@ -51,7 +51,7 @@ module _ (ed : Edition) (key nonce ad message out : List ℕ) where
     authentic = refl;
   }
 
-  legal : sealing_judgement key nonce ad message out ≡ Passed → Legal key nonce ad message × (length message + tag_size ≤ length out)
+  legal : sealing_judgement key nonce ad message out ≡ passed → Legal key nonce ad message × (length message + tag_size ≤ length out)
   legal e =
       let c = passed_clear key nonce ad _ _ _ e in (
         record { key_sized = c.key_sized; nonce_sized = c.nonce_sized; key_not_blank = c.key_not_blank; ad_fits = c.ad_fits; message_fits = ltb-false message_limit (length message) c.fits },
@@ -87,8 +87,8 @@ module _ (ed : Edition) (key nonce ad input out : List ℕ) where
     room = omega arith;
   }
 
-  passed : InOrder → opening_judgement key nonce ad input out ≡ Passed
-  passed o = clear_passed key nonce ad _ _ _ record {
+  rows_pass : InOrder → opening_judgement key nonce ad input out ≡ passed
+  rows_pass o = clear_passed key nonce ad _ _ _ record {
     key_sized = o.key_sized;
     nonce_sized = o.nonce_sized;
     key_not_blank = o.key_not_blank;
@@ -101,19 +101,19 @@ module _ (ed : Edition) (key nonce ad input out : List ℕ) where
 
   -- With these in order only row 7 is left.
   pub opening-tag : InOrder → opened ed key nonce ad input out ≡ cond (tag_differs ed key nonce ad input) (refused TagDiffers out) (success (recovered ed key nonce ad input) out)
-  opening-tag o = any_opening.opening-tag (cipher ed key nonce ad) input out _ _ (opened-settled ed key nonce ad input out) (passed o)
+  opening-tag o = any_opening.opening-tag (cipher ed key nonce ad) input out _ _ (opened-settled ed key nonce ad input out) (rows_pass o)
 
   pub verdict : InOrder → {agrees : Type 0} → Authentic ed key nonce ad input ↔ agrees → {message : List ℕ} → recovered ed key nonce ad input ≡ message
       → Verdict agrees message out (opened ed key nonce ad input out)
-  verdict o = any_opening.verdict (cipher ed key nonce ad) input out _ _ (opened-settled ed key nonce ad input out) (passed o)
+  verdict o = any_opening.verdict (cipher ed key nonce ad) input out _ _ (opened-settled ed key nonce ad input out) (rows_pass o)
 
   pub demand2 : Bytes input → Demand2 ed key nonce ad input out (opened ed key nonce ad input out)
   unfolding payload
   demand2 b =
       any_opening.demand2 (cipher ed key nonce ad) input out _ _ (opened-settled ed key nonce ad input out) (sound ed key nonce ad) b (Legal key nonce ad)
-      (λ m l e room. passed (legal-in_order m l e room)) fits
+      (λ m l e room. rows_pass (legal-in_order m l e room)) fits
     where
-      fits : opening_judgement key nonce ad input out ≡ Passed → (m : List ℕ) → length input ≡ length m + tag_size → Legal key nonce ad m × (length m ≤ length out)
+      fits : opening_judgement key nonce ad input out ≡ passed → (m : List ℕ) → length input ≡ length m + tag_size → Legal key nonce ad m × (length m ≤ length out)
       fits e m long =
           let c = passed_clear key nonce ad _ _ _ e in (
             record { key_sized = c.key_sized; nonce_sized = c.nonce_sized; key_not_blank = c.key_not_blank; ad_fits = c.ad_fits; message_fits = omega (arith, ltb-false (message_limit + tag_size) (length input) c.fits) },

@@ -12,11 +12,10 @@ use lib.ListN.{length, take, drop}
 use lib.Seq.{take_all}
 use Rattle.bits.specs.Bytes.{Bytes, word, value, bits, bytes}
 use Rattle.bits.proofs.Word.{length-word}
-use Rattle.refusals.specs.declared.Check.{Check}
-use Rattle.refusals.specs.declared.Check.TheVariants.{Passed, Failed}
+use Rattle.refusals.specs.Refusals.{Check, passed}
+use Rattle.std.specs.Prelude.{Ok, Err}
 use Rattle.refusals.specs.declared.Refusal.{Refusal}
 use Rattle.refusals.specs.declared.Refusal.TheVariants.{TagDiffers}
-use Rattle.refusals.specs.declared.Answer.TheVariants.{Count, Refused}
 use Rattle.refusals.specs.Outcome.{outcome}
 use Rattle.refusals.proofs.LastRow.{settled_failed, settled-success}
 use Rattle.tagged.proofs.Parts.{length-ciphertext_part, tag_part-bytes}
@@ -66,10 +65,10 @@ pub record SealChecked (key nonce ad message lent : List ℕ) (c : Check) : Type
   pub checked : c ≡ sealing_judgement key nonce ad message lent
 
 module _ {key nonce ad message lent : List ℕ} {c : Check} (checks : SealChecked key nonce ad message lent c) where
-  pub seal_failed : (ed : Edition) {r : Refusal} → c ≡ Failed r → outcome (Refused r) lent ≡ sealed ed key nonce ad message lent
+  pub seal_failed : (ed : Edition) {r : Refusal} → c ≡ Err r → outcome (Err r) lent ≡ sealed ed key nonce ad message lent
   seal_failed ed e = settled_failed (sealing_judgement key nonce ad message lent) (payload ed key nonce ad message) lent (sealed-settled ed key nonce ad message lent) (sym checks.checked ∙ e)
 
-  module _ (e : c ≡ Passed) where
+  module _ (e : c ≡ passed) where
     pub seal_clear : NoneApplies ad_limit key nonce ad (ltb message_limit (length message)) false (ltb (length lent) (length message + tag_size)) false
     seal_clear = passed_clear key nonce ad _ _ _ (sym checks.checked ∙ e)
 
@@ -79,7 +78,7 @@ module _ {key nonce ad message lent : List ℕ} {c : Check} (checks : SealChecke
     pub seal_passed : (ed : Edition) (b done : Engine) (t : ℕ) {out written : List ℕ} → state_of b ≡ begun ed key nonce ad → CryptsAll b.edition true true (state_of b) (take (length lent) message) lent out done
         → bytes 8 (word 64 t) ≡ bytes_in done.edition 8 (run (state_of done) (true ∷ [])).authenticator.accumulator
         → written ≡ take (length message) out ++ (bytes 8 (word 64 t) ++ drop 8 (drop (length message) out))
-        → outcome (Count (length message + tag_size)) written ≡ sealed ed key nonce ad message lent
+        → outcome (Ok (length message + tag_size)) written ≡ sealed ed key nonce ad message lent
     unfolding ciphertext payload
     seal_passed ed b done t {out} {written} began crypted tagged stored =
         sealed_output_lem (cipher ed key nonce ad) (sound ed key nonce ad) message lent out written
@@ -107,10 +106,10 @@ pub record Compared (ed : Edition) (key nonce ad input : List ℕ) (b done : Eng
   pub spelled : n ≡ value (bits (tag_part input)) % 2 ^ 64
 
 module _ {key nonce ad input lent : List ℕ} {c : Check} (checks : OpenChecked key nonce ad input lent c) where
-  pub open_failed : (ed : Edition) {r : Refusal} → c ≡ Failed r → outcome (Refused r) lent ≡ opened ed key nonce ad input lent
+  pub open_failed : (ed : Edition) {r : Refusal} → c ≡ Err r → outcome (Err r) lent ≡ opened ed key nonce ad input lent
   open_failed ed e = any_entry.open_failed (cipher ed key nonce ad) input lent _ _ (opened-settled ed key nonce ad input lent) (sym checks.checked ∙ e)
 
-  module _ (e : c ≡ Passed) where
+  module _ (e : c ≡ passed) where
     pub open_clear : NoneApplies ad_limit key nonce ad (ltb (message_limit + tag_size) (length input)) (ltb (length input) tag_size) (ltb (length lent) (length input - tag_size)) false
     open_clear = passed_clear key nonce ad _ _ _ (sym checks.checked ∙ e)
 
@@ -137,7 +136,7 @@ module _ {key nonce ad input lent : List ℕ} {c : Check} (checks : OpenChecked 
           )
 
       pub open_passed : {out : List ℕ} → r ≡ n → out ≡ with_keystream ed 2 (generator_of b.registers) (take (length lent) (ciphertext_part input)) ++ drop (length (take (length lent) (ciphertext_part input))) lent
-          → outcome (Count (length input - tag_size)) out ≡ opened ed key nonce ad input lent
+          → outcome (Ok (length input - tag_size)) out ≡ opened ed key nonce ad input lent
       unfolding deciphered state_of
       open_passed {out} same added =
           any_entry.open_passed (cipher ed key nonce ad) input lent _ _ (opened-settled ed key nonce ad input lent) (sym checks.checked ∙ e) (sound ed key nonce ad) (same-words.0 same)
@@ -153,6 +152,6 @@ module _ {key nonce ad input lent : List ℕ} {c : Check} (checks : OpenChecked 
           whole : out ≡ with_keystream ed 2 (generator_of b.registers) part ++ drop (length part) lent
           whole = rw (take_all (length lent) part room) at added
 
-      pub open_differs : (r ≡ n → ⊥) → outcome (Refused TagDiffers) lent ≡ opened ed key nonce ad input lent
+      pub open_differs : (r ≡ n → ⊥) → outcome (Err TagDiffers) lent ≡ opened ed key nonce ad input lent
       open_differs differs =
           any_entry.open_differs (cipher ed key nonce ad) input lent _ _ (opened-settled ed key nonce ad input lent) (sym checks.checked ∙ e) (λ authentic. differs (same-words.1 authentic))

@@ -7,9 +7,7 @@ use Prim.Native.Nat.{ℕ, ◌+◌, ◌-◌}
 use lib.Dec.{ltb}
 use lib.ListN.{length}
 use Rattle.refusals.specs.declared.Refusal.TheVariants.{TagDiffers}
-use Rattle.refusals.specs.declared.Check.{Check}
-use Rattle.refusals.specs.declared.Check.TheVariants.{Passed}
-use Rattle.refusals.specs.Refusals.{among, after, check}
+use Rattle.refusals.specs.Refusals.{Check, among, after, check, passed}
 use Rattle.refusals.specs.Outcome.{settled, judged}
 use Rattle.machine.specs.declared.edition.Edition.{Edition}
 use Rattle.payload.specs.Sizes.{tag_size}
@@ -40,10 +38,10 @@ module _ (key nonce ad : List ℕ) (too_long too_short no_room : Bool) where
   tag-last = record { ordered = refl; listed = tabled ad_limit key nonce ad too_long too_short no_room; front = λ differs. refl; last = λ differs. refl }
 
   -- The rows before the tag's pass exactly where none of them applies.
-  pub passed_clear : judgement key nonce ad too_long too_short no_room ≡ Passed → NoneApplies ad_limit key nonce ad too_long too_short no_room false
+  pub passed_clear : judgement key nonce ad too_long too_short no_room ≡ passed → NoneApplies ad_limit key nonce ad too_long too_short no_room false
   passed_clear e = rows_clear ad_limit key nonce ad too_long too_short no_room false (passed_quiet tag-last e)
 
-  pub clear_passed : NoneApplies ad_limit key nonce ad too_long too_short no_room false → judgement key nonce ad too_long too_short no_room ≡ Passed
+  pub clear_passed : NoneApplies ad_limit key nonce ad too_long too_short no_room false → judgement key nonce ad too_long too_short no_room ≡ passed
   clear_passed clear = quiet_passed tag-last (clear_rows ad_limit key nonce ad too_long too_short no_room false clear)
 
 pub sealed-settled : (ed : Edition) (key nonce ad message out : List ℕ)

@@ -8,9 +8,8 @@ use lib.Dec.{eqb}
 use lib.ListN.{length}
 use Rattle.bits.specs.Bytes.{same}
 use Rattle.refusals.specs.declared.Refusal.TheVariants.{NonceSize, TagDiffers, BlankKey}
-use Rattle.refusals.specs.declared.Check.{Check}
-use Rattle.refusals.specs.declared.Check.TheVariants.{Failed}
-use Rattle.refusals.specs.Refusals.{among, after, check}
+use Rattle.refusals.specs.Refusals.{Check, among, after, check}
+use Rattle.std.specs.Prelude.{Err}
 use Rattle.refusals.specs.Outcome.{settled}
 use Rattle.machine.specs.declared.edition.Edition.{Edition}
 use Rattle.key.specs.Sizes.{nonce_size}
@@ -23,11 +22,11 @@ use Rattle.grain128aead.specs.Demand1.{UnderBlankKey}
 use Rattle.grain128aead.proofs.Settled.{judgement, sealed-settled, opened-settled}
 
 module _ (nonce ad : List ℕ) (too_long too_short no_room : Bool) where
-  blank_judgement : judgement blank_key nonce ad too_long too_short no_room ≡ Failed (cond (eqb (length nonce) nonce_size) BlankKey NonceSize)
+  blank_judgement : judgement blank_key nonce ad too_long too_short no_room ≡ Err (cond (eqb (length nonce) nonce_size) BlankKey NonceSize)
   unfolding check before_tag table among blank_key is_blank same
   blank_judgement = go (eqb (length nonce) nonce_size)
     where
-      go : (sized : Bool) → cond (not sized) (Failed NonceSize) (Failed BlankKey) ≡ Failed (cond sized BlankKey NonceSize)
+      go : (sized : Bool) → cond {A = Check} (not sized) (Err NonceSize) (Err BlankKey) ≡ Err (cond sized BlankKey NonceSize)
       go true = refl
       go false = refl
 

@@ -1,9 +1,7 @@
 // Sealing and opening in an edition.
-ghost use Rattle.std.specs.Prelude.{◌≡◌, length};
+ghost use Rattle.std.specs.Prelude.{◌≡◌};
 ghost use Rattle.refusals.specs.Outcome.{outcome};
-ghost use Rattle.machine.specs.Engine.{state_of};
-ghost use Rattle.key.specs.Sizes.{key_size, nonce_size};
-ghost use Rattle.payload.specs.Payload.{begun, payload};
+ghost use Rattle.payload.specs.Payload.{payload};
 ghost use Rattle.checks.specs.Order.{order};
 ghost use Rattle.grain128aead.specs.Calls as calls;
 ghost use Rattle.checks.specs.Demand1.{Demand1};
@@ -14,21 +12,9 @@ ghost use Rattle.grain128aead.specs.Substitution.{Substitution};
 use crate::sizes::AD_LIMIT;
 use limits::MESSAGE_LIMIT;
 use machine::edition::Edition;
-use machine::engine::Engine;
-use refusals::{Answer, Check, Refusal};
+use payload::header;
+use refusals::Refusal;
 use strokes::streams::Taken;
-
-// The machine where the message begins.
-fn begin(edition: Edition, key: &[u8], nonce: &[u8], ad: &[u8]) -> Engine
-    requires { (length key.now ≡ key_size) × (length nonce.now ≡ nonce_size) }
-    ensures { state_of result ≡ begun edition key.now nonce.now ad.now }
-{
-    let mut k = [0u8; 16];
-    let mut n = [0u8; 12];
-    k.copy_from_slice(key);
-    n.copy_from_slice(nonce);
-    payload::header::begin(edition, &k, &n, ad)
-}
 
 // Seals a message: the ciphertext and then the tag, at the front of the output.
 pub fn seal(
@@ -38,7 +24,7 @@ pub fn seal(
     ad: &[u8],
     message: &[u8],
     out: &mut [u8],
-) -> Answer
+) -> Result<usize, Refusal>
     ensures sealed { outcome result out.new ≡ calls.sealed edition key.now nonce.now ad.now message.now out.old }
     ensures demand1 { Demand1 order (calls.sealing_row key.now nonce.now ad.now message.now out.old) (payload edition key.now nonce.now ad.now message.now) out.old (outcome result out.new) }
     ensures demand2 { Sealing edition key.now nonce.now ad.now message.now out.old (outcome result out.new) }
@@ -46,16 +32,18 @@ pub fn seal(
     let n = message.len();
     let too_long = MESSAGE_LIMIT < n;
     let no_room = out.len() < n + 8;
-    match checks::judge(key, nonce, ad, AD_LIMIT, too_long, false, no_room) {
-        Check::Failed(r) => Answer::Refused(r),
-        Check::Passed => {
-            let begun = begin(edition, key, nonce, ad);
-            let done = strings::encipher_all(begun, message, out);
-            let end = n + 8;
-            bits::spell(payload::tag::finish(done), &mut out[n..end]);
-            Answer::Count(end)
-        }
-    }
+    checks::judge(key, nonce, ad, AD_LIMIT, too_long, false, no_room)?;
+    // No row applied: key and nonce have their sizes.
+    let begun = header::begin(
+        edition,
+        key.try_into().unwrap(),
+        nonce.try_into().unwrap(),
+        ad,
+    );
+    let done = strings::encipher_all(begun, message, out);
+    let end = n + 8;
+    bits::spell(payload::tag::finish(done), &mut out[n..end]);
+    Ok(end)
 }
 
 // Opens a sealed input: the message, at the front of the output. The tag is computed first, and nothing is written before it holds.
@@ -66,7 +54,7 @@ pub fn open(
     ad: &[u8],
     input: &[u8],
     out: &mut [u8],
-) -> Answer
+) -> Result<usize, Refusal>
     ensures opened { outcome result out.new ≡ calls.opened edition key.now nonce.now ad.now input.now out.old }
     ensures demand1 { Demand1 order (calls.opening_row edition key.now nonce.now ad.now input.now out.old) (calls.recovered edition key.now nonce.now ad.now input.now) out.old (outcome result out.new) }
     ensures demand2 { Demand2 edition key.now nonce.now ad.now input.now out.old (outcome result out.new) }
@@ -77,20 +65,25 @@ pub fn open(
     let too_long = MESSAGE_LIMIT + 8 < n;
     let too_short = n < 8;
     let no_room = out.len() + 8 < n;
-    match checks::judge(key, nonce, ad, AD_LIMIT, too_long, too_short, no_room) {
-        Check::Failed(r) => Answer::Refused(r),
-        Check::Passed => {
-            let ciphertext = payload::parts::ciphertext_part(input);
-            let begun = begin(edition, key, nonce, ad);
-            let done = strings::decipher_all(begun, ciphertext);
-            if payload::tag::finish(done) == bits::number(payload::parts::tag_part(input)) {
-                let count = n - 8;
-                let registers = begun.registers;
-                strings::add_keystream(edition, Taken::EverySecond, registers, ciphertext, out);
-                Answer::Count(count)
-            } else {
-                Answer::Refused(Refusal::TagDiffers)
-            }
-        }
+    checks::judge(key, nonce, ad, AD_LIMIT, too_long, too_short, no_room)?;
+    let ciphertext = payload::parts::ciphertext_part(input);
+    // No row applied: key and nonce have their sizes.
+    let begun = header::begin(
+        edition,
+        key.try_into().unwrap(),
+        nonce.try_into().unwrap(),
+        ad,
+    );
+    let done = strings::decipher_all(begun, ciphertext);
+    if payload::tag::finish(done) != bits::number(payload::parts::tag_part(input)) {
+        return Err(Refusal::TagDiffers);
     }
+    strings::add_keystream(
+        edition,
+        Taken::EverySecond,
+        begun.registers,
+        ciphertext,
+        out,
+    );
+    Ok(n - 8)
 }

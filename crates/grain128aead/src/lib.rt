@@ -10,10 +10,16 @@ ghost use Rattle.grain128aead.specs.FirstEdition as calls;
 ghost use Rattle.grain128aead.specs.FirstEdition.{payload, Demand1, Sealing, Demand2, Demand3, Substitution};
 
 use machine::edition::Edition;
-use refusals::Answer;
+use refusals::Refusal;
 
 // Seals a message: the ciphertext and then the tag, at the front of the output.
-pub fn seal(key: &[u8], nonce: &[u8], ad: &[u8], message: &[u8], out: &mut [u8]) -> Answer
+pub fn seal(
+    key: &[u8],
+    nonce: &[u8],
+    ad: &[u8],
+    message: &[u8],
+    out: &mut [u8],
+) -> Result<usize, Refusal>
     ensures sealed { outcome result out.new ≡ calls.sealed key.now nonce.now ad.now message.now out.old }
     ensures demand1 { Demand1 (calls.sealing_row key.now nonce.now ad.now message.now out.old) (payload key.now nonce.now ad.now message.now) out.old (outcome result out.new) }
     ensures demand2 { Sealing key.now nonce.now ad.now message.now out.old (outcome result out.new) }
@@ -22,7 +28,13 @@ pub fn seal(key: &[u8], nonce: &[u8], ad: &[u8], message: &[u8], out: &mut [u8])
 }
 
 // Opens a sealed input: the message, at the front of the output. The tag is computed first, and nothing is written before it holds.
-pub fn open(key: &[u8], nonce: &[u8], ad: &[u8], input: &[u8], out: &mut [u8]) -> Answer
+pub fn open(
+    key: &[u8],
+    nonce: &[u8],
+    ad: &[u8],
+    input: &[u8],
+    out: &mut [u8],
+) -> Result<usize, Refusal>
     ensures opened { outcome result out.new ≡ calls.opened key.now nonce.now ad.now input.now out.old }
     ensures demand1 { Demand1 (calls.opening_row key.now nonce.now ad.now input.now out.old) (calls.recovered key.now nonce.now ad.now input.now) out.old (outcome result out.new) }
     ensures demand2 { Demand2 key.now nonce.now ad.now input.now out.old (outcome result out.new) }

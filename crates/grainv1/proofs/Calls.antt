@@ -7,10 +7,8 @@ use Prim.Native.Nat.{ℕ, ◌≤◌}
 use lib.ListN.{length, drop}
 use Rattle.bits.specs.Bytes.{Bytes, flip}
 use Rattle.refusals.specs.declared.Refusal.{Refusal}
-use Rattle.refusals.specs.declared.Check.{Check}
-use Rattle.refusals.specs.declared.Check.TheVariants.{Passed, Failed}
-use Rattle.refusals.specs.declared.Answer.TheVariants.{Count, Refused}
-use Rattle.refusals.specs.Refusals.{among, check}
+use Rattle.refusals.specs.Refusals.{Check, among, check, passed}
+use Rattle.std.specs.Prelude.{Ok, Err}
 use Rattle.refusals.specs.Outcome.{Outcome, outcome, judged, settled}
 use Rattle.refusals.proofs.LastRow.{settled_failed}
 use Rattle.limits.specs.Limits.{message_limit}
@@ -39,7 +37,7 @@ module _ (key nonce : List ℕ) where
   with_keystream_twice s b = added_twice grainv1 flipping 1 (initialised key nonce) s b
 
   module _ (message out : List ℕ) where
-    pub passed_legal : judgement key nonce message out ≡ Passed → Legal key nonce message × (length message ≤ length out)
+    pub passed_legal : judgement key nonce message out ≡ passed → Legal key nonce message × (length message ≤ length out)
     passed_legal e = quiet_legal key nonce message out (passed_quiet order (rows key nonce message out) (tabled key nonce message out) e)
 
     settles : crypted key nonce message out ≡ settled (judgement key nonce message out) (with_keystream key nonce message) out
@@ -64,11 +62,11 @@ module _ (key nonce : List ℕ) where
     )
 
     -- What the code leaves after a failed check, and after one that passed.
-    pub crypt_failed : {r : Refusal} → judgement key nonce message out ≡ Failed r → outcome (Refused r) out ≡ crypted key nonce message out
+    pub crypt_failed : {r : Refusal} → judgement key nonce message out ≡ Err r → outcome (Err r) out ≡ crypted key nonce message out
     crypt_failed e = settled_failed (judgement key nonce message out) (with_keystream key nonce message) out settles e
 
-    pub crypt_passed : {g : Generator Bool} {written : List ℕ} → judgement key nonce message out ≡ Passed → g ≡ initialised key nonce
-        → written ≡ added grainv1 flip 1 g message ++ drop (length message) out → outcome (Count (length message)) written ≡ crypted key nonce message out
+    pub crypt_passed : {g : Generator Bool} {written : List ℕ} → judgement key nonce message out ≡ passed → g ≡ initialised key nonce
+        → written ≡ added grainv1 flip 1 g message ++ drop (length message) out → outcome (Ok (length message)) written ≡ crypted key nonce message out
     unfolding with_keystream
     crypt_passed e eg ew =
         untagged.crypted-output (with_keystream key nonce) length-with_keystream message out (judgement key nonce message out) (crypted key nonce message out) settles e

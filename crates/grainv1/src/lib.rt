@@ -8,12 +8,11 @@ pub mod starting;
 mod stroke;
 mod windows;
 
-ghost use Rattle.std.specs.Prelude.{◌≡◌, length};
+ghost use Rattle.std.specs.Prelude.{◌≡◌};
 ghost use Rattle.refusals.specs.Refusals as refusals;
 ghost use Rattle.refusals.specs.Refusals.{among};
 ghost use Rattle.refusals.specs.Outcome.{outcome};
 ghost use Rattle.checks.specs.Demand1.{Demand1};
-ghost use Rattle.grainv1.specs.Sizes.{key_size, nonce_size};
 ghost use Rattle.grainv1.specs.StartUp.{initialised, with_keystream};
 ghost use Rattle.grainv1.specs.Words.{generator_of};
 ghost use Rattle.grainv1.specs.Rows.{order, rows};
@@ -21,21 +20,20 @@ ghost use Rattle.grainv1.specs.Calls.{crypted, Crypting};
 
 use crate::registers::Registers;
 use limits::MESSAGE_LIMIT;
-use refusals::{Answer, Check, Refusal};
+use refusals::Refusal;
 
 // The first row that applies.
-fn judge(key: &[u8], nonce: &[u8], message: &[u8], out: &[u8]) -> Check
+fn judge(key: &[u8], nonce: &[u8], message: &[u8], out: &[u8]) -> Result<(), Refusal>
     ensures { result ≡ refusals.check order (among (rows key.now nonce.now message.now out.now)) }
 {
-    let c = refusals::after(Check::Passed, Refusal::KeySize, key.len() != 10);
+    let c = refusals::after(Ok(()), Refusal::KeySize, key.len() != 10);
     let c = refusals::after(c, Refusal::NonceSize, nonce.len() != 8);
     let c = refusals::after(c, Refusal::MessageTooLong, MESSAGE_LIMIT < message.len());
     refusals::after(c, Refusal::OutputTooShort, out.len() < message.len())
 }
 
 // The registers after start-up, from the bytes of key and nonce.
-fn begin(key: &[u8], nonce: &[u8]) -> Registers
-    requires { (length key.now ≡ key_size) × (length nonce.now ≡ nonce_size) }
+fn begin(key: &[u8; 10], nonce: &[u8; 8]) -> Registers
     ensures { generator_of result ≡ initialised key.now nonce.now }
 {
     starting::start(
@@ -46,16 +44,14 @@ fn begin(key: &[u8], nonce: &[u8]) -> Registers
 }
 
 // Adds the keystream: to a message, or to what this call made of one, at the front of the output.
-pub fn crypt(key: &[u8], nonce: &[u8], message: &[u8], out: &mut [u8]) -> Answer
+pub fn crypt(key: &[u8], nonce: &[u8], message: &[u8], out: &mut [u8]) -> Result<usize, Refusal>
     ensures crypted { outcome result out.new ≡ crypted key.now nonce.now message.now out.old }
     ensures demand1 { Demand1 order (among (rows key.now nonce.now message.now out.old)) (with_keystream key.now nonce.now message.now) out.old (outcome result out.new) }
     ensures crypting { Crypting key.now nonce.now message.now out.old (outcome result out.new) }
 {
-    match judge(key, nonce, message, out) {
-        Check::Failed(r) => Answer::Refused(r),
-        Check::Passed => {
-            adding::add(begin(key, nonce), message, out);
-            Answer::Count(message.len())
-        }
-    }
+    judge(key, nonce, message, out)?;
+    // No row applied: key and nonce have their sizes.
+    let begun = begin(key.try_into().unwrap(), nonce.try_into().unwrap());
+    adding::add(begun, message, out);
+    Ok(message.len())
 }

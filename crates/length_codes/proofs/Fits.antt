@@ -8,14 +8,14 @@ use native.Mathlib.Omega.{arith}
 use borrow.Author.Tests.{ltb-false, lt-ltb}
 use lib.Dec.{ltb, lit<}
 use Rattle.refusals.specs.declared.Refusal.TheVariants.{NotCodedLength}
-use Rattle.refusals.specs.declared.Answer.TheVariants.{Count, Refused}
+use Rattle.std.specs.Prelude.{Ok, Err}
 use Rattle.refusals.specs.Signed.{capped}
 use Rattle.length_codes.specs.LengthCodes.{coded_length, length_code}
 use Rattle.length_codes.specs.Calls.{length_of, code_of}
 use Rattle.length_codes.proofs.Rule.{table}
 
 -- A refusal, or a count of less than 65.
-small : (over : Bool) (n : ℕ) → (over ≡ false → n < 65) → capped (cond over (Refused NotCodedLength) (Count n)) ≡ cond over (Refused NotCodedLength) (Count n)
+small : (over : Bool) (n : ℕ) → (over ≡ false → n < 65) → capped (cond over (Err NotCodedLength) (Ok n)) ≡ cond over (Err NotCodedLength) (Ok n)
 small true n h = refl
 small false n h = simp (lt-ltb n (2 ^ 63) (lt_trans (h refl) (lit< tt)))
 

@@ -25,32 +25,30 @@ fn after(e: Engine, m: u8, s: Streamed) -> Engine
     requires { Streams 8 (generator_of e.registers) s }
     ensures { state_of result ≡ run (state_of e) (word 8 m) }
 {
-    let edition = e.edition;
-    let registers = s.registers;
     Engine {
-        edition,
-        registers,
+        registers: s.registers,
         tagger: authenticator::absorb_byte(e.tagger, bits::wide(m), s.authentication),
+        ..e
     }
 }
 
-// The machine after a byte, and the byte with its keystream added.
+// The machine after a byte or a word of the string, and that with its keystream added.
 #[derive(Clone, Copy)]
-pub struct Crypted {
+pub struct Crypted<T> {
     pub engine: Engine,
-    pub byte: u8,
+    pub text: T,
 }
 
 // A message's byte when sealing, a ciphertext's when opening.
-pub fn crypt_byte(e: Engine, x: u8, sealing: bool) -> Crypted
-    ensures { Crypts 8 sealing (state_of e) x result.byte result.engine }
+pub fn crypt_byte(e: Engine, x: u8, sealing: bool) -> Crypted<u8>
+    ensures { Crypts 8 sealing (state_of e) x result.text result.engine }
 {
     let s = streams::stream_byte(e.registers);
-    let byte = x ^ ((s.keystream % 256) as u8);
-    let m = if sealing { x } else { byte };
+    let text = x ^ ((s.keystream % 256) as u8);
+    let m = if sealing { x } else { text };
     Crypted {
         engine: after(e, m, s),
-        byte,
+        text,
     }
 }
 
@@ -58,21 +56,19 @@ pub fn crypt_byte(e: Engine, x: u8, sealing: bool) -> Crypted
 pub fn absorb_byte(e: Engine, m: u8) -> Engine
     ensures { state_of result ≡ run (state_of e) (word 8 m) }
 {
-    let c = crypt_byte(e, m, true);
-    c.engine
+    crypt_byte(e, m, true).engine
 }
 
 // A single bit of the string, the lowest of `m`, whose keystream is dropped: two plain clocks.
 pub fn absorb_bit(e: Engine, m: u64) -> Engine
     ensures { state_of result ≡ run (state_of e) (lowest m ∷ []) }
 {
-    let edition = e.edition;
     let between = plain::clock(e.registers, 0, 0);
     let new = plain::preoutput(between);
     Engine {
-        edition,
         registers: plain::clock(between, 0, 0),
         tagger: authenticator::absorb(e.tagger, m, new),
+        ..e
     }
 }
 
@@ -81,32 +77,23 @@ fn after_word(e: Engine, m: u64, s: Streamed) -> Engine
     requires { Streams 32 (generator_of e.registers) s }
     ensures { state_of result ≡ run (state_of e) (word 32 m) }
 {
-    let edition = e.edition;
-    let registers = s.registers;
     Engine {
-        edition,
-        registers,
+        registers: s.registers,
         tagger: authenticator::absorb_word(e.tagger, m, s.authentication),
+        ..e
     }
 }
 
-// The machine after a word of the string, and the word with its keystream added.
-#[derive(Clone, Copy)]
-pub struct CryptedWord {
-    pub engine: Engine,
-    pub word: u64,
-}
-
 // Thirty-two bits, the lowest of `x`: a message's when sealing, a ciphertext's when opening. The word that comes out has no others.
-pub fn crypt_word(e: Engine, x: u64, sealing: bool) -> CryptedWord
-    ensures { Crypts 32 sealing (state_of e) x result.word result.engine }
+pub fn crypt_word(e: Engine, x: u64, sealing: bool) -> Crypted<u64>
+    ensures { Crypts 32 sealing (state_of e) x result.text result.engine }
 {
     let s = streams::stream_word(e.registers);
-    let word = (x ^ s.keystream) % 0x1_0000_0000;
-    let m = if sealing { x } else { word };
-    CryptedWord {
+    let text = (x ^ s.keystream) % 0x1_0000_0000;
+    let m = if sealing { x } else { text };
+    Crypted {
         engine: after_word(e, m, s),
-        word,
+        text,
     }
 }
 
@@ -114,6 +101,5 @@ pub fn crypt_word(e: Engine, x: u64, sealing: bool) -> CryptedWord
 pub fn finish(e: Engine) -> u64
     ensures { word 64 result ≡ (run (state_of e) (true ∷ [])).authenticator.accumulator }
 {
-    let t = e.tagger;
-    t.accumulator ^ t.register
+    e.tagger.accumulator ^ e.tagger.register
 }

@@ -8,7 +8,7 @@ ghost use Rattle.mode_checks.specs.Modes.{mode_bit};
 ghost use Rattle.mode_checks.specs.Order as order;
 ghost use Rattle.mode_checks.specs.Rows.{common_rows, authenticated_rows, unauthenticated_rows};
 
-use refusals::{Check, Refusal};
+use refusals::Refusal;
 
 // Nonce bit 0.
 fn mode_bit(nonce: &[u8]) -> bool
@@ -21,12 +21,12 @@ fn mode_bit(nonce: &[u8]) -> bool
 }
 
 // The first of the rows on key and nonce that applies, in the mode with authentication or in the one without.
-fn judge_common(key: &[u8], nonce: &[u8], mode: bool) -> Check
+fn judge_common(key: &[u8], nonce: &[u8], mode: bool) -> Result<(), Refusal>
     ensures { result ≡ refusals.check order.common (among (common_rows key.now nonce.now «mode»)) }
 {
     let blank = key::is_blank(key);
     let other_mode = mode ^ mode_bit(nonce);
-    let c = refusals::after(Check::Passed, Refusal::KeySize, key.len() != 16);
+    let c = refusals::after(Ok(()), Refusal::KeySize, key.len() != 16);
     let c = refusals::after(c, Refusal::NonceSize, nonce.len() != 12);
     let c = refusals::after(c, Refusal::BlankKey, blank);
     refusals::after(c, Refusal::NonceMode, other_mode)
@@ -40,7 +40,7 @@ pub fn judge_authenticated(
     too_long: bool,
     too_short: bool,
     no_room: bool,
-) -> Check
+) -> Result<(), Refusal>
     ensures { result ≡ refusals.check order.before_tag (among (authenticated_rows key.now nonce.now tag_bits too_long too_short no_room false)) }
 {
     let legal = (1 <= tag_bits) & (tag_bits <= 32);
@@ -52,7 +52,12 @@ pub fn judge_authenticated(
 }
 
 // The first row that applies without a tag.
-pub fn judge_unauthenticated(key: &[u8], nonce: &[u8], too_long: bool, no_room: bool) -> Check
+pub fn judge_unauthenticated(
+    key: &[u8],
+    nonce: &[u8],
+    too_long: bool,
+    no_room: bool,
+) -> Result<(), Refusal>
     ensures { result ≡ refusals.check order.unauthenticated (among (unauthenticated_rows key.now nonce.now too_long no_room)) }
 {
     let c = judge_common(key, nonce, false);

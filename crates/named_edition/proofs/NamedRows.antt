@@ -7,9 +7,8 @@ use Prim.Native.Nat.{ℕ}
 use lib.Dec.{eqb}
 use Rattle.refusals.specs.declared.Refusal.{Refusal}
 use Rattle.refusals.specs.declared.Refusal.TheVariants.{UnknownEdition}
-use Rattle.refusals.specs.declared.Check.{Check}
-use Rattle.refusals.specs.declared.Check.TheVariants.{Failed}
-use Rattle.refusals.specs.Refusals.{number, Row, ◌when◌, among, check}
+use Rattle.refusals.specs.Refusals.{Check, number, Row, ◌when◌, among, check}
+use Rattle.std.specs.Prelude.{Err}
 use Rattle.refusals.specs.Outcome.{Outcome, refused, settled, judged}
 use Rattle.machine.specs.declared.edition.Edition.{Edition}
 use Rattle.startup.specs.Naming.{known, named}
@@ -28,9 +27,9 @@ passed_by b rows [] h = refl
 passed_by b rows (r ∷ rs) h = go (eqb 23 (number r)) h (passed_by b rows rs)
   where
     go : (t : Bool) → (not t && without23 rs) ≡ true → (without23 rs ≡ true → check rs (among ((UnknownEdition when b) ∷ rows)) ≡ check rs (among rows))
-        → cond (cond t b (among rows r)) (Failed r) (check rs (among ((UnknownEdition when b) ∷ rows))) ≡ cond (among rows r) (Failed r) (check rs (among rows))
+        → cond (cond t b (among rows r)) (Err r) (check rs (among ((UnknownEdition when b) ∷ rows))) ≡ cond (among rows r) (Err r) (check rs (among rows))
     go true h rest = absurd (true≢false (sym h))
-    go false h rest = ap (cond (among rows r) (Failed r)) (rest h)
+    go false h rest = ap (cond (among rows r) (Err r)) (rest h)
 
 module _ (rs : List Refusal) (others : without23 rs ≡ true) (n : ℕ) (rows : List Row) (written out : List ℕ) where
   -- What the call comes to.
@@ -41,9 +40,9 @@ module _ (rs : List Refusal) (others : without23 rs ≡ true) (n : ℕ) (rows : 
   by_known : (b : Bool) → known n ≡ b → named_outcome ≡ cond (not b) (refused UnknownEdition out) (judged rs (among rows) written out)
   unfolding judged settled check among
   by_known true e =
-      ap (λ (d : Bool). settled (cond (not d) (Failed UnknownEdition) (check rs (among (with_edition n rows)))) written out) e
+      ap (λ (d : Bool). settled (cond (not d) (Err UnknownEdition) (check rs (among (with_edition n rows)))) written out) e
       ∙ ap (λ (c : Check). settled c written out) (passed_by (not (known n)) rows rs others)
-  by_known false e = ap (λ (d : Bool). settled (cond (not d) (Failed UnknownEdition) (check rs (among (with_edition n rows)))) written out) e
+  by_known false e = ap (λ (d : Bool). settled (cond (not d) (Err UnknownEdition) (check rs (among (with_edition n rows)))) written out) e
 
   pub unknown : known n ≡ false → refused UnknownEdition out ≡ named_outcome
   unknown e = sym (by_known false e)

@@ -11,7 +11,7 @@ ghost use Rattle.grain128aead.specs.Substitution.{Substitution};
 ghost use Rattle.named_edition.specs.Calls as named;
 
 use grain128aead::by_edition;
-use refusals::{Answer, Refusal};
+use refusals::Refusal;
 use startup::editions;
 
 pub fn open(
@@ -21,7 +21,7 @@ pub fn open(
     ad: &[u8],
     input: &[u8],
     out: &mut [u8],
-) -> Answer
+) -> Result<usize, Refusal>
     ensures opened { outcome result out.new ≡ named.opened edition key.now nonce.now ad.now input.now out.old }
     ensures demand1 { Demand1 named.order (among (named.opening_rows edition key.now nonce.now ad.now input.now out.old)) (calls.recovered (naming.named edition) key.now nonce.now ad.now input.now) out.old (outcome result out.new) }
     ensures demand2 { named.InNamed edition (λ e. Demand2 e key.now nonce.now ad.now input.now out.old (outcome result out.new)) }
@@ -29,7 +29,7 @@ pub fn open(
     ensures substitution { named.InNamed edition (λ e. Substitution e key.now nonce.now ad.now input.now out.old (outcome result out.new)) }
 {
     if !editions::known(edition) {
-        return Answer::Refused(Refusal::UnknownEdition);
+        return Err(Refusal::UnknownEdition);
     }
     by_edition::open(editions::named(edition), key, nonce, ad, input, out)
 }

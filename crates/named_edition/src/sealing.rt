@@ -9,7 +9,7 @@ ghost use Rattle.grain128aead.specs.Demand2.{Sealing};
 ghost use Rattle.named_edition.specs.Calls as named;
 
 use grain128aead::by_edition;
-use refusals::{Answer, Refusal};
+use refusals::Refusal;
 use startup::editions;
 
 pub fn seal(
@@ -19,13 +19,13 @@ pub fn seal(
     ad: &[u8],
     message: &[u8],
     out: &mut [u8],
-) -> Answer
+) -> Result<usize, Refusal>
     ensures sealed { outcome result out.new ≡ named.sealed edition key.now nonce.now ad.now message.now out.old }
     ensures demand1 { Demand1 named.order (among (named.sealing_rows edition key.now nonce.now ad.now message.now out.old)) (payload (naming.named edition) key.now nonce.now ad.now message.now) out.old (outcome result out.new) }
     ensures demand2 { named.InNamed edition (λ e. Sealing e key.now nonce.now ad.now message.now out.old (outcome result out.new)) }
 {
     if !editions::known(edition) {
-        return Answer::Refused(Refusal::UnknownEdition);
+        return Err(Refusal::UnknownEdition);
     }
     by_edition::seal(editions::named(edition), key, nonce, ad, message, out)
 }

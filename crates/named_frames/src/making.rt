@@ -10,7 +10,7 @@ ghost use Rattle.frames.specs.Demand2.{Making};
 ghost use Rattle.named_frames.specs.Calls as named;
 
 use frames::by_edition;
-use refusals::{Answer, Refusal};
+use refusals::Refusal;
 use startup::editions;
 
 pub fn make(
@@ -20,13 +20,13 @@ pub fn make(
     identifier: u32,
     message: &[u8],
     out: &mut [u8],
-) -> Answer
+) -> Result<usize, Refusal>
     ensures made { outcome result out.new ≡ named.made edition key.now nonce.now identifier message.now out.old }
     ensures demand1 { Demand1 named.making (among (named.making_rows edition key.now nonce.now identifier message.now out.old)) (data_field (naming.named edition) key.now nonce.now identifier message.now) out.old (outcome result out.new) }
     ensures demand2 { InNamed edition (λ e. Making e key.now nonce.now identifier message.now out.old (outcome result out.new)) }
 {
     if !editions::known(edition) {
-        return Answer::Refused(Refusal::UnknownEdition);
+        return Err(Refusal::UnknownEdition);
     }
     by_edition::make(
         editions::named(edition),

@@ -10,7 +10,7 @@ ghost use Rattle.frames.specs.Promises.{Reading};
 ghost use Rattle.named_frames.specs.Calls as named;
 
 use frames::by_edition;
-use refusals::{Answer, Refusal};
+use refusals::Refusal;
 use startup::editions;
 
 pub fn read(
@@ -21,13 +21,13 @@ pub fn read(
     code: u32,
     field: &[u8],
     out: &mut [u8],
-) -> Answer
+) -> Result<usize, Refusal>
     ensures read { outcome result out.new ≡ named.read edition key.now nonce.now identifier code field.now out.old }
     ensures demand1 { Demand1 named.reading (among (named.reading_rows edition key.now nonce.now identifier code field.now out.old)) (calls.recovered (naming.named edition) key.now nonce.now identifier code field.now) out.old (outcome result out.new) }
     ensures promises { InNamed edition (λ e. Reading e key.now nonce.now identifier code field.now out.old (outcome result out.new)) }
 {
     if !editions::known(edition) {
-        return Answer::Refused(Refusal::UnknownEdition);
+        return Err(Refusal::UnknownEdition);
     }
     by_edition::read(
         editions::named(edition),

@@ -14,6 +14,5 @@ use startup::editions;
 pub fn finish(e: Engine) -> u64
     ensures { bytes tag_size (word 64 result) ≡ bytes_in e.edition tag_size (run (state_of e) (true ∷ [])).authenticator.accumulator }
 {
-    let edition = e.edition;
-    editions::ordered(edition, engine::finish(e))
+    editions::ordered(e.edition, engine::finish(e))
 }

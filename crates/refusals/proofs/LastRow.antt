@@ -5,51 +5,49 @@ use mathlib.Core.Bool.{Bool, true, false, cond}
 use mathlib.Core.List.{List, [], ◌∷◌, ◌++◌, foldl-append}
 use Prim.Native.Nat.{ℕ}
 use Rattle.refusals.specs.declared.Refusal.{Refusal}
-use Rattle.refusals.specs.declared.Check.{Check}
-use Rattle.refusals.specs.declared.Check.TheVariants.{Passed, Failed}
-use Rattle.refusals.specs.Refusals.{after, check}
-use Rattle.refusals.specs.declared.Answer.TheVariants.{Refused}
+use Rattle.std.specs.Prelude.{Ok, Err}
+use Rattle.refusals.specs.Refusals.{after, check, passed, Check}
 use Rattle.refusals.specs.Outcome.{Outcome, outcome, settled, refused, success}
 use Rattle.refusals.specs.Demand1.{Accepts}
 use Rattle.refusals.proofs.Demand1.{passed_not_failed, count-not-refused}
 use Rattle.refusals.proofs.Rows.{check-in_order}
 
 pub after_false : (c : Check) (r : Refusal) → after c r false ≡ c
-after_false Passed r = refl
-after_false (Failed q) r = refl
+after_false (Ok u) r = refl
+after_false (Err q) r = refl
 
-pub after_passed : (c : Check) (r : Refusal) (applies : Bool) → after c r applies ≡ Passed → (c ≡ Passed) × (applies ≡ false)
-after_passed Passed r true e = absurd (passed_not_failed e refl)
-after_passed Passed r false e = (refl, refl)
-after_passed (Failed q) r applies e = absurd (passed_not_failed e refl)
+pub after_passed : (c : Check) (r : Refusal) (applies : Bool) → after c r applies ≡ passed → (c ≡ passed) × (applies ≡ false)
+after_passed (Ok u) r true e = absurd (passed_not_failed e refl)
+after_passed (Ok u) r false e = (refl, refl)
+after_passed (Err q) r applies e = absurd (passed_not_failed e refl)
 
-pub settled_passed : (c : Check) (written out : List ℕ) → Accepts (settled c written out) → c ≡ Passed
+pub settled_passed : (c : Check) (written out : List ℕ) → Accepts (settled c written out) → c ≡ passed
 unfolding settled
-settled_passed Passed written out a = refl
-settled_passed (Failed q) written out a = absurd (count-not-refused a.1 refl)
+settled_passed (Ok u) written out a = refl
+settled_passed (Err q) written out a = absurd (count-not-refused a.1 refl)
 
 -- What is settled by a check that failed, and by one that passed.
-pub settled_failed : (c : Check) (written out : List ℕ) {o : Outcome} {r : Refusal} → o ≡ settled c written out → c ≡ Failed r → outcome (Refused r) out ≡ o
+pub settled_failed : (c : Check) (written out : List ℕ) {o : Outcome} {r : Refusal} → o ≡ settled c written out → c ≡ Err r → outcome (Err r) out ≡ o
 unfolding settled
 settled_failed c written out settles failed = sym (settles ∙ ap (λ (d : Check). settled d written out) failed)
 
-pub settled-success : (c : Check) (written out : List ℕ) {o : Outcome} → o ≡ settled c written out → c ≡ Passed → success written out ≡ o
+pub settled-success : (c : Check) (written out : List ℕ) {o : Outcome} → o ≡ settled c written out → c ≡ passed → success written out ≡ o
 unfolding settled
 settled-success c written out settles passed = sym (settles ∙ ap (λ (d : Check). settled d written out) passed)
 
 pub check-last : (rs : List Refusal) (r : Refusal) (applies : Refusal → Bool) → check (rs ++ (r ∷ [])) applies ≡ after (check rs applies) r (applies r)
 check-last rs r applies =
-    sym (check-in_order applies (rs ++ (r ∷ []))) ∙ foldl-append _ Passed rs (r ∷ [])
+    sym (check-in_order applies (rs ++ (r ∷ []))) ∙ foldl-append _ passed rs (r ∷ [])
     ∙ ap (λ (c : Check). after c r (applies r)) (check-in_order applies rs)
 
-pub settled-last : (r : Refusal) (applies : Bool) (written out : List ℕ) → settled (after Passed r applies) written out ≡ cond applies (refused r out) (success written out)
+pub settled-last : (r : Refusal) (applies : Bool) (written out : List ℕ) → settled (after passed r applies) written out ≡ cond applies (refused r out) (success written out)
 unfolding settled
 settled-last r true written out = refl
 settled-last r false written out = refl
 
 -- Where an earlier row has failed, neither the last row nor what would be written matters.
-pub settled_earlier : (c : Check) (r : Refusal) (applies applies' : Bool) (written written' out : List ℕ) → (c ≡ Passed → ⊥)
+pub settled_earlier : (c : Check) (r : Refusal) (applies applies' : Bool) (written written' out : List ℕ) → (c ≡ passed → ⊥)
     → settled (after c r applies) written out ≡ settled (after c r applies') written' out
 unfolding settled
-settled_earlier Passed r applies applies' written written' out failed = absurd (failed refl)
-settled_earlier (Failed q) r applies applies' written written' out failed = refl
+settled_earlier (Ok u) r applies applies' written written' out failed = absurd (failed refl)
+settled_earlier (Err q) r applies applies' written written' out failed = refl

@@ -8,25 +8,24 @@ use Prim.Native.Nat.{ℕ}
 use borrow.Author.Tests.{eqb-true}
 use lib.Dec.{eqb}
 use Rattle.refusals.specs.declared.Refusal.{Refusal}
-use Rattle.refusals.specs.declared.Check.{Check}
-use Rattle.refusals.specs.declared.Check.TheVariants.{Passed, Failed}
-use Rattle.refusals.specs.Refusals.{number, Row, among, after, check}
+use Rattle.std.specs.Prelude.{Err}
+use Rattle.refusals.specs.Refusals.{number, Row, among, after, check, passed, Check}
 use Rattle.refusals.specs.Demand1.{NoOther}
 
 -- The rows of a list tried in turn, after some others.
 abbrev pub in_order : (applies : Refusal → Bool) → Check → List Refusal → Check
 in_order applies = foldl (λ c r. after c r (applies r))
 
-failed_stays : (applies : Refusal → Bool) (q : Refusal) (rs : List Refusal) → in_order applies (Failed q) rs ≡ Failed q
+failed_stays : (applies : Refusal → Bool) (q : Refusal) (rs : List Refusal) → in_order applies (Err q) rs ≡ Err q
 failed_stays applies q [] = refl
 failed_stays applies q (r ∷ rs) = failed_stays applies q rs
 
-pub check-in_order : (applies : Refusal → Bool) (rs : List Refusal) → in_order applies Passed rs ≡ check rs applies
+pub check-in_order : (applies : Refusal → Bool) (rs : List Refusal) → in_order applies passed rs ≡ check rs applies
 unfolding check
 check-in_order applies [] = refl
 check-in_order applies (r ∷ rs) = go (applies r) (check-in_order applies rs)
   where
-    go : (b : Bool) → in_order applies Passed rs ≡ check rs applies → in_order applies (cond b (Failed r) Passed) rs ≡ cond b (Failed r) (check rs applies)
+    go : (b : Bool) → in_order applies passed rs ≡ check rs applies → in_order applies (cond b (Err r) passed) rs ≡ cond b (Err r) (check rs applies)
     go true e = failed_stays applies r rs
     go false e = e
 

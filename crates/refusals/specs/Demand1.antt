@@ -3,10 +3,8 @@
 use Rattle.std.specs.Prelude.{◌≡◌, ◌↔◌, Bool, true, false, ℕ, length, take, drop}
 use mathlib.Core.List.{List, ◌∷◌, ◌++◌, map, Memᴰ}
 use Rattle.refusals.specs.declared.Refusal.{Refusal}
-use Rattle.refusals.specs.declared.Check.{Check}
-use Rattle.refusals.specs.declared.Check.TheVariants.{Passed, Failed}
-use Rattle.refusals.specs.declared.Answer.TheVariants.{Count, Refused}
-use Rattle.refusals.specs.Refusals.{Row, among}
+use Rattle.std.specs.Prelude.{Ok, Err}
+use Rattle.refusals.specs.Refusals.{Row, among, passed, Check}
 use Rattle.refusals.specs.Outcome.{Outcome, success}
 
 -- Of a list of refusals, r is the first whose row applies: it stands there, its row applies, and that of none before it does.
@@ -21,16 +19,16 @@ Clear rs applies = (r : Refusal) → Memᴰ r rs → applies r ≡ false
 
 -- What the rows of a call decide, whatever it writes: it fails with the first refusal whose row applies, and passes where none does.
 pub record Decides (order : List Refusal) (applies : Refusal → Bool) (c : Check) : Type 0 where
-  pub fails : (r : Refusal) → (c ≡ Failed r) ↔ First order applies r
-  pub passes : (c ≡ Passed) ↔ Clear order applies
+  pub fails : (r : Refusal) → (c ≡ Err r) ↔ First order applies r
+  pub passes : (c ≡ passed) ↔ Clear order applies
 
 abbrev pub Accepts : Outcome → Type 0
-Accepts o = (n : ℕ) × (o.answer ≡ Count n)
+Accepts o = (n : ℕ) × (o.answer ≡ Ok n)
 
 -- Over the order and the rows of a call, the bytes that it writes on success, and the lent output.
 pub record Demand1 (order : List Refusal) (applies : Refusal → Bool) (written out : List ℕ) (o : Outcome) : Type 0 where
-  pub refuses : (r : Refusal) → (o.answer ≡ Refused r) ↔ First order applies r
-  pub untouched : (r : Refusal) → o.answer ≡ Refused r → o.output ≡ out
+  pub refuses : (r : Refusal) → (o.answer ≡ Err r) ↔ First order applies r
+  pub untouched : (r : Refusal) → o.answer ≡ Err r → o.output ≡ out
   pub accepts : Accepts o ↔ Clear order applies
   pub writes : Accepts o → o ≡ success written out
   pub front : Accepts o → take (length written) o.output ≡ written

@@ -1,10 +1,9 @@
 -- What a call answers and leaves in the lent output (document 01, "When the box says no").
 use Rattle.std.specs.Prelude.{Bool, List, ◌++◌, ℕ, length, drop}
 use Rattle.refusals.specs.declared.Refusal.{Refusal}
-use Rattle.refusals.specs.declared.Check.{Check}
-use Rattle.refusals.specs.declared.Check.TheVariants.{Passed, Failed}
-use Rattle.refusals.specs.declared.Answer.{Answer}
-use Rattle.refusals.specs.declared.Answer.TheVariants.{Count, Refused}
+use Rattle.refusals.specs.Refusals.{Check}
+use Rattle.std.specs.Prelude.{Ok, Err}
+use Rattle.refusals.specs.Refusals.{Answer}
 use Rattle.refusals.specs.Refusals.{check}
 
 -- What a call answers, and the output afterwards.
@@ -17,16 +16,16 @@ outcome answer output = record { answer = answer; output = output }
 
 -- A refusal leaves the output as lent.
 abbrev pub refused : Refusal → (out : List ℕ) → Outcome
-refused r out = outcome (Refused r) out
+refused r out = outcome (Err r) out
 
 -- Success answers the count of bytes written. They stand at the front of the output, and what lies behind them is untouched.
 abbrev pub success : (written out : List ℕ) → Outcome
-success written out = outcome (Count (length written)) (written ++ drop (length written) out)
+success written out = outcome (Ok (length written)) (written ++ drop (length written) out)
 
 -- What a call comes to when the rows have been tried.
 unfoldable pub settled : Check → (written out : List ℕ) → Outcome
-settled Passed written out = success written out
-settled (Failed r) written out = refused r out
+settled (Ok u) written out = success written out
+settled (Err r) written out = refused r out
 
 -- The first row that applies is the answer.
 unfoldable pub judged : List Refusal → (applies : Refusal → Bool) → (written out : List ℕ) → Outcome

@@ -1,9 +1,7 @@
 -- Refusals: their numbers, rows, and the first row that applies (document 01, "When the box says no"; numbers 8 to 23, document 02, C-11, C-13, C-16, C-18, C-19, C-20 and C-22).
-use Rattle.std.specs.Prelude.{Bool, false, cond, List, [], ◌∷◌, ℕ, eqb}
+use Rattle.std.specs.Prelude.{Bool, false, cond, List, [], ◌∷◌, ℕ, eqb, Result, Ok, Err, ⊤}
 use Rattle.refusals.specs.declared.Refusal.{Refusal}
 use Rattle.refusals.specs.declared.Refusal.TheVariants.{KeySize, NonceSize, AdTooLong, MessageTooLong, SealedTooShort, OutputTooShort, TagDiffers, IdentifierTooLarge, FrameMessageTooLong, NotCodedLength, WrongMessageLength, FillerNotZero, OutOfTurn, UnsoundState, BlankKey, BrokenCapture, PastLastFrame, TooDeep, NonceMode, TagLength, SignalPlace, SignalNumbers, UnknownEdition}
-use Rattle.refusals.specs.declared.Check.{Check}
-use Rattle.refusals.specs.declared.Check.TheVariants.{Passed, Failed}
 
 abbrev pub number : Refusal → ℕ
 number KeySize = 1
@@ -44,12 +42,24 @@ unfoldable pub among : List Row → Refusal → Bool
 among [] r = false
 among (row ∷ rows) r = cond (eqb (number row.refusal) (number r)) row.applies (among rows r)
 
+-- What some rows of a call come to: nothing, or why it refuses.
+abbrev pub Check : Type 0
+Check = Result ⊤ Refusal
+
+-- None of the rows applies.
+abbrev pub passed : Check
+passed = Ok tt
+
+-- What a call answers: a count, as a rule of the bytes written, or why it refuses.
+abbrev pub Answer : Type 0
+Answer = Result ℕ Refusal
+
 -- What some rows come to when one more is tried after them.
 abbrev pub after : Check → Refusal → (applies : Bool) → Check
-after Passed r applies = cond applies (Failed r) Passed
-after (Failed q) r applies = Failed q
+after (Ok u) r applies = cond applies (Err r) passed
+after (Err q) r applies = Err q
 
 -- The first refusal of a list whose row applies. Each call has a list of its own, its order.
 unfoldable pub check : List Refusal → (applies : Refusal → Bool) → Check
-check [] applies = Passed
-check (r ∷ rs) applies = cond (applies r) (Failed r) (check rs applies)
+check [] applies = passed
+check (r ∷ rs) applies = cond (applies r) (Err r) (check rs applies)

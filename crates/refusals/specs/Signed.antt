@@ -1,13 +1,13 @@
 -- An answer as a signed number (document 01, "When the box says no"): a success is the count, refusal n is minus n.
 use Rattle.std.specs.Prelude.{◌≡◌, cond, List, ℕ, ◌-◌, ◌^◌, ltb, ℤ, pos, neg_ℤ}
-use Rattle.refusals.specs.declared.Answer.{Answer}
-use Rattle.refusals.specs.declared.Answer.TheVariants.{Count, Refused}
+use Rattle.refusals.specs.Refusals.{Answer}
+use Rattle.std.specs.Prelude.{Ok, Err}
 use Rattle.refusals.specs.Refusals.{number}
 use Rattle.refusals.specs.Outcome.{Outcome}
 
 abbrev pub signed_of : Answer → ℤ
-signed_of (Count n) = pos n
-signed_of (Refused r) = neg_ℤ (pos (number r))
+signed_of (Ok n) = pos n
+signed_of (Err r) = neg_ℤ (pos (number r))
 
 -- The number that a call answers, and the output afterwards.
 pub record Returns (o : Outcome) (r : ℤ) (output : List ℕ) : Type 0 where
@@ -16,5 +16,5 @@ pub record Returns (o : Outcome) (r : ℤ) (output : List ℕ) : Type 0 where
 
 -- A count of 2 ^ 63 or more fits no signed number of 64 bits: the largest of these stands in for it.
 abbrev pub capped : Answer → Answer
-capped (Count n) = Count (cond (ltb n (2 ^ 63)) n (2 ^ 63 - 1))
-capped (Refused r) = Refused r
+capped (Ok n) = Ok (cond (ltb n (2 ^ 63)) n (2 ^ 63 - 1))
+capped (Err r) = Err r

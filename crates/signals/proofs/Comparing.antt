@@ -1,8 +1,8 @@
 -- How doubles compare: of finite ones, if x is not below y then y is at most x; if x is at most y then y is not below x; and what is above a high limit is not below the low one.
--- And the test by the infinities of whether a double is finite.
+-- And that the library and std mean the same by finite.
 -- Assumes nothing.
 use mathlib.Core.Path.{◌≡◌, refl, ap₂, ◌∙◌}
-use mathlib.Core.Bool.{Bool, true, false, false≢true, ◌&&◌, ◌||◌, and-eq-true_iff}
+use mathlib.Core.Bool.{Bool, true, false, false≢true, ◌||◌, and-eq-true_iff}
 use Prim.Native.Nat.{ℕ, ◌+◌, ◌*◌, ◌<◌, ◌≤◌}
 use native.Mathlib.Omega.{arith}
 use borrow.Author.Tests.{ltb-true, ltb-false, eqb-true, le-ltb, eq-eqb}
@@ -11,6 +11,7 @@ use lib.Ieee.{Float, nan, inf, fin, up, down, below, level, lt, le}
 use lib.Ieee.Fits.{down_pos}
 use lib.Ieee.Positive.{through}
 use lib.Ieee.Scale.{finite}
+use Rattle.std.specs.Float.{float_is_finite}
 
 -- Two numbers with signs.
 level_same : (s : Bool) (a b : ℕ) → a ≡ b → level s a s b ≡ true
@@ -101,9 +102,12 @@ not_lt_of_above (fin s l c) (fin t n d) (inf u) p q r h k = absurd (false≢true
 not_lt_of_above (fin s l c) (fin t n d) (fin u m e) p q r h k =
     beyond s (l * up c) (down c) t (n * up d) (down d) u (m * up e) (down e) (down_pos c) (down_pos d) h k
 
-pub finite_is : (x : Float) → (lt (inf true) x && lt x (inf false)) ≡ finite x
-unfolding lt
+pub finite_is : (x : Float) → float_is_finite x ≡ finite x
+unfolding float_is_finite
 finite_is nan = refl
-finite_is (inf true) = refl
-finite_is (inf false) = refl
+finite_is (inf s) = refl
 finite_is (fin s m e) = refl
+
+-- What std answered tells whether a double is finite.
+pub finite_answered : (x : Float) {r b : Bool} → r ≡ float_is_finite x → r ≡ b → finite x ≡ b
+finite_answered x e f = cc (finite_is x)

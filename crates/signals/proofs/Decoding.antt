@@ -8,13 +8,11 @@ use lib.Dec.{T}
 use lib.ListN.{length}
 use lib.Ieee.{Float, is_nan}
 use Rattle.refusals.specs.declared.Refusal.TheVariants.{SignalPlace, SignalNumbers}
-use Rattle.refusals.specs.declared.Check.{Check}
-use Rattle.refusals.specs.declared.Check.TheVariants.{Passed, Failed}
-use Rattle.refusals.specs.Refusals.{among, check}
+use Rattle.refusals.specs.Refusals.{Check, among, check, passed}
+use Rattle.std.specs.Prelude.{Ok, Err}
 use Rattle.signals.specs.declared.Scaling.{Scaling}
 use Rattle.signals.specs.declared.Verdict.{Verdict}
-use Rattle.signals.specs.declared.Decoded.{Decoded}
-use Rattle.signals.specs.declared.Decoded.TheVariants.{Value, Refused}
+use Rattle.signals.specs.Calls.{Decoded}
 use Rattle.signals.specs.Raw.{misplaced, raw}
 use Rattle.signals.specs.Values.{unusable, value_of, verdict, carried}
 use Rattle.signals.specs.Calls.{decided, decoded}
@@ -24,26 +22,26 @@ use Rattle.signals.proofs.Told.{value_no_nan}
 
 -- The two rows in their order.
 abbrev rows_tried : (place numbers : Bool) → Check
-rows_tried place numbers = cond place (Failed SignalPlace) (cond numbers (Failed SignalNumbers) Passed)
+rows_tried place numbers = cond place (Err SignalPlace) (cond numbers (Err SignalNumbers) passed)
 
 -- A value that is given is no NaN.
 abbrev pub NoNan : Decoded → Type 0
-NoNan (Value v) = T (not (is_nan (carried v)))
-NoNan (Refused r) = Unit
+NoNan (Ok v) = T (not (is_nan (carried v)))
+NoNan (Err r) = Unit
 
 module _ (message : List ℕ) (start width : ℕ) (signed : Bool) (s : Scaling) where
   abbrev given : Verdict
   given = verdict (value_of (raw message start width signed) s) s
 
-  pub is_misplaced : misplaced (length message) start width ≡ true → decoded message start width signed s ≡ Refused SignalPlace
+  pub is_misplaced : misplaced (length message) start width ≡ true → decoded message start width signed s ≡ Err SignalPlace
   unfolding decoded check among
   is_misplaced e = ap (λ (b : Bool). decided (rows_tried b (unusable s)) given) e
 
-  pub is_unusable : misplaced (length message) start width ≡ false → unusable s ≡ true → decoded message start width signed s ≡ Refused SignalNumbers
+  pub is_unusable : misplaced (length message) start width ≡ false → unusable s ≡ true → decoded message start width signed s ≡ Err SignalNumbers
   unfolding decoded check among
   is_unusable e f = ap (λ (b : Bool). decided (rows_tried b (unusable s)) given) e ∙ ap (λ (b : Bool). decided (rows_tried false b) given) f
 
-  pub is_value : misplaced (length message) start width ≡ false → unusable s ≡ false → decoded message start width signed s ≡ Value given
+  pub is_value : misplaced (length message) start width ≡ false → unusable s ≡ false → decoded message start width signed s ≡ Ok given
   unfolding decoded check among
   is_value e f = ap (λ (b : Bool). decided (rows_tried b (unusable s)) given) e ∙ ap (λ (b : Bool). decided (rows_tried false b) given) f
 

@@ -9,6 +9,7 @@ use native.Mathlib.Omega.{arith}
 use lib.ListN.{length, take, drop, length-drop}
 use lib.Pow.{pow_mono}
 use lib.Seq.{length-take-le, drop-drop}
+use Rattle.std.specs.Int.{div_ceil}
 use Rattle.bits.specs.Bytes.{value, bits}
 use Rattle.bits.proofs.Packing.{length-bits}
 use Rattle.bits.proofs.Parts.{value-part, bits-part, part-within}
@@ -21,7 +22,7 @@ abbrev pub first : (start : ℕ) → ℕ
 first start = start / 8
 
 abbrev pub last : (start width : ℕ) → ℕ
-last start width = (start + width + 7) / 8
+last start width = div_ceil (start + width) 8
 
 abbrev pub around : (message : List ℕ) (start width : ℕ) → List ℕ
 around message start width = take (last start width - first start) (drop (first start) message)

@@ -4,15 +4,10 @@ use Rattle.std.specs.Float.{binary64}
 use Rattle.std.specs.Float.Ieee.{to_bits}
 use Rattle.refusals.specs.declared.Refusal.{Refusal}
 use Rattle.refusals.specs.declared.Refusal.TheVariants.{SignalPlace, SignalNumbers}
-use Rattle.refusals.specs.declared.Check.{Check}
-use Rattle.refusals.specs.declared.Check.TheVariants.{Passed, Failed}
-use Rattle.refusals.specs.declared.Answer.{Answer}
-use Rattle.refusals.specs.declared.Answer.TheVariants as answers
-use Rattle.refusals.specs.Refusals.{Row, ◌when◌, among, check}
+use Rattle.refusals.specs.Refusals.{Check, Answer, Row, ◌when◌, among, check}
+use Rattle.std.specs.Prelude.{Result, Ok, Err}
 use Rattle.signals.specs.declared.Scaling.{Scaling}
 use Rattle.signals.specs.declared.Verdict.{Verdict}
-use Rattle.signals.specs.declared.Decoded.{Decoded}
-use Rattle.signals.specs.declared.Decoded.TheVariants.{Value, Refused}
 use Rattle.signals.specs.Raw.{misplaced, raw}
 use Rattle.signals.specs.Values.{unusable, value_of, verdict, carried, number}
 
@@ -22,10 +17,14 @@ order = SignalPlace ∷ SignalNumbers ∷ []
 abbrev pub rows : (n start width : ℕ) → Scaling → List Row
 rows n start width s = (SignalPlace when misplaced n start width) ∷ (SignalNumbers when unusable s) ∷ []
 
+-- What decoding a signal comes to: its value with the verdict, or why it has none.
+abbrev pub Decoded : Type 0
+Decoded = Result Verdict Refusal
+
 -- The value once the rows have been tried.
 abbrev pub decided : Check → Verdict → Decoded
-decided Passed v = Value v
-decided (Failed r) v = Refused r
+decided (Ok u) v = Ok v
+decided (Err r) v = Err r
 
 unfoldable pub decoded : (message : List ℕ) (start width : ℕ) (signed : Bool) → Scaling → Decoded
 unfolding check among
@@ -34,13 +33,13 @@ decoded message start width signed s =
 
 -- The number of the verdict, or the refusal.
 abbrev pub answer : Decoded → Answer
-answer (Value v) = answers.Count (number v)
-answer (Refused r) = answers.Refused r
+answer (Ok v) = Ok (number v)
+answer (Err r) = Err r
 
 -- The number lent for the bits of the value: those of the value, or as lent after a refusal.
 abbrev pub bits_after : Decoded → (lent : ℕ) → ℕ
-bits_after (Value v) lent = to_bits binary64 (carried v)
-bits_after (Refused r) lent = lent
+bits_after (Ok v) lent = to_bits binary64 (carried v)
+bits_after (Err r) lent = lent
 
 -- The four numbers held together.
 abbrev pub scaling : (scale offset low high : Float) → Scaling

@@ -6,8 +6,8 @@ use Rattle.refusals.specs.declared.Refusal.{Refusal}
 use Rattle.refusals.specs.Refusals.{among}
 use Rattle.refusals.specs.Demand1.{First, Clear}
 use Rattle.signals.specs.declared.Scaling.{Scaling}
-use Rattle.signals.specs.declared.Decoded.{Decoded}
-use Rattle.signals.specs.declared.Decoded.TheVariants.{Value, Refused}
+use Rattle.signals.specs.Calls.{Decoded}
+use Rattle.std.specs.Prelude.{Ok, Err}
 use Rattle.signals.specs.Raw.{misplaced, raw}
 use Rattle.signals.specs.Values.{unusable, value_of, verdict}
 use Rattle.signals.specs.Judged.{Exact, Told}
@@ -15,9 +15,9 @@ use Rattle.signals.specs.Calls.{order, rows, decoded, bits_after}
 
 -- Over the rows of a call, the value and its limits, and what decoding comes to.
 pub record Decodes (applies : Refusal → Bool) (value : Float) (s : Scaling) (d : Decoded) : Type 0 where
-  pub refuses : (r : Refusal) → (d ≡ Refused r) ↔ First order applies r
-  pub gives : (d ≡ Value (verdict value s)) ↔ Clear order applies
-  pub untouched : (r : Refusal) → d ≡ Refused r → (lent : ℕ) → bits_after d lent ≡ lent
+  pub refuses : (r : Refusal) → (d ≡ Err r) ↔ First order applies r
+  pub gives : (d ≡ Ok (verdict value s)) ↔ Clear order applies
+  pub untouched : (r : Refusal) → d ≡ Err r → (lent : ℕ) → bits_after d lent ≡ lent
   pub writes : Clear order applies → (lent : ℕ) → bits_after d lent ≡ to_bits binary64 value
 
 abbrev pub Decoding : Type 0

@@ -2,24 +2,18 @@
 ghost use Rattle.std.specs.Prelude.{◌≡◌, T};
 ghost use Rattle.std.specs.Float.{binary64};
 ghost use Rattle.std.specs.Float.Ieee.{in_float};
-ghost use Rattle.std.specs.Float.Ieee.Scale as scale;
 ghost use Rattle.signals.specs.Values as values;
 
 use crate::{Scaling, Verdict};
-
-// Whether a double is neither infinite nor a NaN.
-pub fn finite(x: f64) -> bool
-    ensures { result ≡ scale.finite x }
-{
-    let infinity: f64 = 1.0 / 0.0;
-    (-infinity < x) & (x < infinity)
-}
 
 // Whether one of the four numbers is not finite, or the low limit is above the high one.
 pub fn unusable(s: Scaling) -> bool
     ensures { result ≡ values.unusable s }
 {
-    let usable = finite(s.scale) & finite(s.offset) & finite(s.low) & finite(s.high);
+    let usable = s.scale.is_finite()
+        & s.offset.is_finite()
+        & s.low.is_finite()
+        & s.high.is_finite();
     !usable | (s.high < s.low)
 }
 
@@ -36,7 +30,7 @@ pub fn value(raw: i64, s: Scaling) -> f64
 pub fn verdict(value: f64, s: Scaling) -> Verdict
     ensures { result ≡ values.verdict value s }
 {
-    if !finite(value) {
+    if !value.is_finite() {
         return Verdict::NotFinite(value);
     }
     if value < s.low {
@@ -53,10 +47,7 @@ pub fn carried(v: Verdict) -> f64
     ensures { result ≡ values.carried v }
 {
     match v {
-        Verdict::Below(x) => x,
-        Verdict::Within(x) => x,
-        Verdict::Above(x) => x,
-        Verdict::NotFinite(x) => x,
+        Verdict::Below(x) | Verdict::Within(x) | Verdict::Above(x) | Verdict::NotFinite(x) => x,
     }
 }
 

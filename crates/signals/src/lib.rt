@@ -7,7 +7,7 @@ mod raw;
 ghost use Rattle.std.specs.Prelude.{◌≡◌};
 ghost use Rattle.signals.specs.Calls as calls;
 
-use refusals::{Answer, Refusal};
+use refusals::Refusal;
 
 // The four numbers of a signal: what its raw number is multiplied by, what is added, and its limits.
 #[derive(Clone, Copy)]
@@ -27,25 +27,24 @@ pub enum Verdict {
     NotFinite(f64),
 }
 
-// What decoding a signal comes to.
-#[derive(Clone, Copy)]
-pub enum Decoded {
-    Value(Verdict),
-    Refused(Refusal),
-}
-
 // The value of the signal of `width` bits from bit `start` on, with its verdict, or why it has none.
-pub fn decode(message: &[u8], start: u32, width: u32, signed: bool, s: Scaling) -> Decoded
+pub fn decode(
+    message: &[u8],
+    start: u32,
+    width: u32,
+    signed: bool,
+    s: Scaling,
+) -> Result<Verdict, Refusal>
     ensures { result ≡ calls.decoded message.now start width signed s }
 {
     if raw::misplaced(message.len(), start, width) {
-        return Decoded::Refused(Refusal::SignalPlace);
+        return Err(Refusal::SignalPlace);
     }
     if judging::unusable(s) {
-        return Decoded::Refused(Refusal::SignalNumbers);
+        return Err(Refusal::SignalNumbers);
     }
     let n = raw::raw(message, start, width, signed);
-    Decoded::Value(judging::verdict(judging::value(n, s), s))
+    Ok(judging::verdict(judging::value(n, s), s))
 }
 
 // Decodes a signal into the bits of its value. Answers 1 where it is below its limits, 2 within, 3 above, 4 not finite.
@@ -56,15 +55,11 @@ pub fn decode_bits(
     signed: bool,
     s: Scaling,
     value_bits: &mut u64,
-) -> Answer
+) -> Result<usize, Refusal>
     ensures value { result ≡ calls.answer (calls.decoded message.now start width signed s) }
     ensures value_bits_after { value_bits.new ≡ calls.bits_after (calls.decoded message.now start width signed s) value_bits.old }
 {
-    match decode(message, start, width, signed, s) {
-        Decoded::Refused(r) => Answer::Refused(r),
-        Decoded::Value(v) => {
-            *value_bits = f64::to_bits(judging::carried(v));
-            Answer::Count(judging::number(v))
-        }
-    }
+    let v = decode(message, start, width, signed, s)?;
+    *value_bits = f64::to_bits(judging::carried(v));
+    Ok(judging::number(v))
 }

@@ -8,7 +8,7 @@ pub fn misplaced(bytes: usize, start: u32, width: u32) -> bool
     ensures { result ≡ raws.misplaced bytes start width }
 {
     let end = start as usize + width as usize;
-    (width < 1) | (32 < width) | (bytes < (end + 7) / 8)
+    (width < 1) | (32 < width) | (bytes < end.div_ceil(8))
 }
 
 // The number that the bits of a signal are, the first bit highest.
@@ -18,7 +18,7 @@ fn unsigned(message: &[u8], start: u32, width: u32) -> u64
 {
     let end = start as usize + width as usize;
     let first = start as usize / 8;
-    let last = (end + 7) / 8;
+    let last = end.div_ceil(8);
     let n = bits::number(&message[first..last]);
     (n >> (8 * last - end)) % (1 << width)
 }

@@ -4,7 +4,7 @@ use mathlib.Core.Path.{◌≡◌, refl, sym, ap, ap₂, ◌∙◌}
 use mathlib.Core.Bool.{Bool}
 use mathlib.Core.List.{List, [], ◌∷◌, ◌++◌, append-nil, map, reverse}
 use Prim.Native.Nat.{ℕ, ◌*◌, ◌%◌, ◌^◌, ◌<◌, ◌≤◌}
-use native.Mathlib.Nat.{mod-mod}
+use native.Mathlib.Nat.{mod-mod, le_of_eq}
 use lib.Bits.{bit_or}
 use lib.Dec.{lit≤}
 use lib.ListN.{length}
@@ -64,11 +64,10 @@ word_byte e b r orders =
     word_agrees 8 (r % 256) r (mod-mod r 256)
     ∙ orders_bits e (b ∷ []) b r (lit≤ tt) (unfold bits in (sym (append-nil (word 8 b)))) orders
 
--- Up to eight bytes of a string in a word, and four above 32 given bits.
-pub word_lem : (e : Edition) (s : List ℕ) (k n r : ℕ) → k ≤ 8 → length s ≡ k → n ≡ value (bits s) % 2 ^ 64 → Orders e n r → word (8 * k) r ≡ bits_in e s
-word_lem e s k n r few len spells orders =
-    let short : length s ≤ 8 = rw len few in
-    ap (λ (k : ℕ). word (8 * k) r) (sym len) ∙ orders_bits e s n r short (spelled s n short spells) orders
+-- Eight bytes of a string in a word, and four above 32 given bits.
+pub word_eight : (e : Edition) (s : List ℕ) (n r : ℕ) → length s ≡ 8 → n ≡ value (bits s) % 2 ^ 64 → Orders e n r → word 64 r ≡ bits_in e s
+word_eight e s n r len spells orders =
+    ap (λ (k : ℕ). word (8 * k) r) (sym len) ∙ orders_bits e s n r (le_of_eq len) (spelled s n (le_of_eq len) spells) orders
 
 pub word_four : (e : Edition) (s : List ℕ) (n r low : ℕ) → length s ≡ 4 → low < 2 ^ 32 → n ≡ value (bits s) % 2 ^ 64 → Orders e n r
     → word 64 (bit_or (r * 2 ^ 32 % 2 ^ 64) low) ≡ bits_in e s ++ word 32 low

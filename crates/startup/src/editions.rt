@@ -1,6 +1,6 @@
 // What differs between the editions: the order of bits in a byte, the clocks before those that fill accumulator and register, what
 // these add, and the clock at which running starts.
-ghost use Rattle.std.specs.Prelude.{◌≡◌, ◌+◌, ◌*◌, ◌≤◌, ◌∷◌, [], length, take, drop};
+ghost use Rattle.std.specs.Prelude.{◌≡◌, ◌∷◌, []};
 ghost use Rattle.bits.specs.Bytes.{word};
 ghost use Rattle.preoutput.specs.Words.{generator_of};
 ghost use Rattle.startup.specs.Editions as editions;
@@ -37,15 +37,6 @@ pub fn ordered(edition: Edition, w: u64) -> u64
         Edition::First => w,
         Edition::Second => bits::turning::turn(w),
     }
-}
-
-// The N bytes from place `at` on as a word.
-pub fn word_at<const N: usize>(edition: Edition, s: &[u8], at: usize) -> u64
-    requires { (N ≤ 8) × (at + N ≤ length s.now) }
-    ensures { word (8 * N) result ≡ editions.bits_in edition (take N (drop at s.now)) }
-{
-    let end = at + N;
-    ordered(edition, bits::number(&s[at..end]))
 }
 
 // A byte with its bits in the edition's order.

@@ -22,12 +22,10 @@ pub fn start(edition: Edition, key: &[u8; 16], nonce: &[u8; 12]) -> Engine
     let loaded = loading::load(edition, key, nonce);
     let warmed = editions::warm(edition, loaded);
     let first = filling::fill(warmed, editions::filler(edition, loaded.nfsr0));
-    let between = first.registers;
-    let second = filling::fill(between, editions::filler(edition, loaded.nfsr1));
-    let registers = second.registers;
+    let second = filling::fill(first.registers, editions::filler(edition, loaded.nfsr1));
     Engine {
         edition,
-        registers,
+        registers: second.registers,
         tagger: Tagger {
             accumulator: first.outputs,
             register: second.outputs,

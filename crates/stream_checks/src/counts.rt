@@ -4,8 +4,8 @@ ghost use Rattle.stream_checks.specs.Counts as counts;
 
 #[derive(Clone, Copy)]
 pub enum Kind {
-    Sealing,
-    Checking,
+    Sealing = 1,
+    Checking = 2,
 }
 
 // The kind by its number; the phase, 0 for open and 1 for finished; the announced length of the AD; the bytes taken so far of the AD and of the
@@ -23,10 +23,7 @@ pub struct Counts {
 pub fn number(kind: Kind) -> u8
     ensures { result ≡ counts.number kind }
 {
-    match kind {
-        Kind::Sealing => 1,
-        Kind::Checking => 2,
-    }
+    kind as u8
 }
 
 // Whether kind, phase and counts can occur, where a message has a limit.
@@ -34,11 +31,12 @@ pub fn can_occur(limit: usize, c: Counts) -> bool
     ensures { result ≡ counts.can_occur limit c }
 {
     let complete = c.ad == c.announced;
-    ((c.kind == 1) | (c.kind == 2))
-        & (((c.phase == 0) | (c.phase == 1))
-            & ((c.ad <= c.announced)
-                & (((c.message == 0) | complete)
-                    & ((c.message as usize <= limit) & ((c.phase == 0) | complete)))))
+    matches!(c.kind, 1 | 2)
+        && matches!(c.phase, 0 | 1)
+        && c.ad <= c.announced
+        && (c.message == 0 || complete)
+        && c.message as usize <= limit
+        && (c.phase == 0 || complete)
 }
 
 // Whether a piece of AD is out of turn.
@@ -46,14 +44,14 @@ pub fn ad_out_of_turn(kind: Kind, c: Counts, piece: &[u8]) -> bool
     ensures { result ≡ counts.ad_out_of_turn kind c (length piece.now) }
 {
     let beyond = (c.announced as usize) < c.ad as usize + piece.len();
-    (c.kind != number(kind)) | (c.phase != 0) | beyond
+    c.kind != number(kind) || c.phase != 0 || beyond
 }
 
 // Whether a piece of message or ciphertext, or the end, is out of turn.
 pub fn out_of_turn(kind: Kind, c: Counts) -> bool
     ensures { result ≡ counts.out_of_turn kind c }
 {
-    (c.kind != number(kind)) | (c.phase != 0) | (c.ad != c.announced)
+    c.kind != number(kind) || c.phase != 0 || c.ad != c.announced
 }
 
 // Whether a piece makes the message longer than its limit.

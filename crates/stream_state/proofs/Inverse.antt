@@ -1,11 +1,12 @@
 -- Reading and writing a stream are each other's inverse on the states that can occur.
 -- Assumes nothing.
 use mathlib.Core.Path.{◌≡◌, refl, sym, ap, ap₂, ◌∙◌}
-use mathlib.Core.Bool.{Bool, true, false, true≢false, ◌&&◌}
+use mathlib.Core.Bool.{Bool, true, ◌&&◌}
 use mathlib.Core.List.{List, [], ◌∷◌, ◌++◌}
 use Prim.Native.Nat.{ℕ, suc, ◌+◌, ◌*◌, ◌/◌, ◌%◌, ◌<◌, ◌≤◌}
 use native.Mathlib.Omega.{arith}
 use borrow.Author.Tests.{eq-eqb, eqb-true}
+use Rattle.std.proofs.lemmas.Bool.{and_parts}
 use lib.Dec.{eqb, lit<, lit≤}
 use lib.ListN.{length, get_or, take, drop, length-drop, take-append-drop}
 use lib.Seq.{take_at, drop_at, drop-drop, drop-cons, get_or-drop, length-take-le}
@@ -118,10 +119,6 @@ module _ (x : Stream) where
 
 -- ---- what is sound
 
-both : (a b : Bool) → (a && b) ≡ true → (a ≡ true) × (b ≡ true)
-both true b h = (refl, h)
-both false b h = absurd (true≢false (sym h))
-
 pub record Soundly (limit : ℕ) (s : List ℕ) : Type 0 where
   pub size : length s ≡ state_size
   pub edition : known (get_or s 56 0) ≡ true
@@ -131,9 +128,9 @@ pub record Soundly (limit : ℕ) (s : List ℕ) : Type 0 where
 pub soundly : (limit : ℕ) (s : List ℕ) → sound limit s ≡ true → Soundly limit s
 unfolding sound
 soundly limit s h =
-    let p = both (eqb (length s) state_size) _ h in
-    let q = both (known (get_or s 56 0)) _ p.1 in
-    let r = both (can_occur limit (counts_at s)) _ q.1 in
+    let p = and_parts (eqb (length s) state_size) _ h in
+    let q = and_parts (known (get_or s 56 0)) _ p.1 in
+    let r = and_parts (can_occur limit (counts_at s)) _ q.1 in
     record { size = eqb-true (length s) state_size p.0; edition = q.0; counted = r.0; zeros = same_equal (drop 57 s) spare r.1 }
 
 module _ (limit : ℕ) (s : List ℕ) (is_bytes : Bytes s) (h : Soundly limit s) where

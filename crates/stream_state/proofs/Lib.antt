@@ -1,3 +1,4 @@
 pub mod Places
 pub mod Spelled
 pub mod Inverse
+pub mod Few

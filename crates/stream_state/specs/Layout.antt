@@ -1,7 +1,7 @@
 -- The 64 bytes of a stream (document 02, C-13 and C-20): LFSR, NFSR, accumulator and register, place 0 first, top bit first, in both editions; kind; phase;
 -- AD length, AD taken and message taken, two bytes each, high byte first; edition; 7 spare bytes, which are zero.
 use Rattle.std.specs.Prelude.{Bool, cond, ◌&&◌, List, [], ◌∷◌, ◌++◌, ℕ, ◌+◌, ◌*◌, ◌/◌, ◌%◌, eqb, length, get_or, take, drop, replicate}
-use Rattle.std.proofs.Math.Option.{Option, none, some}
+use Rattle.std.specs.Prelude.{Option, Some, None, option_map}
 use Rattle.bits.specs.Bytes.{bits, bytes, same}
 use Rattle.machine.specs.declared.edition.Edition.{Edition}
 use Rattle.machine.specs.Machine.{State}
@@ -10,8 +10,7 @@ use Rattle.startup.specs.Naming.{known, named}
 use Rattle.stream_checks.specs.declared.counts.Counts.{Counts}
 use Rattle.stream_checks.specs.Counts.{can_occur}
 use Rattle.stream_checks.specs.Rows.{state_size}
-use Rattle.stream_state.specs.declared.Held.{Held}
-use Rattle.stream_state.specs.declared.Held.TheVariants.{Sound, Unsound}
+use Rattle.stream_state.specs.declared.Session.{Session}
 use Rattle.stream_state.specs.Stream.{Stream, stream_of}
 
 -- A number in two bytes, high byte first, and the number that two bytes of a string spell.
@@ -59,8 +58,7 @@ sound limit s = eqb (length s) state_size && (known (get_or s 56 0) && (can_occu
 
 -- What a state holds: a stream, or nothing.
 unfoldable pub held : (limit : ℕ) → List ℕ → Option Stream
-held limit s = cond (sound limit s) (some (read s)) none
+held limit s = cond (sound limit s) (Some (read s)) None
 
-abbrev pub held_of : Held → Option Stream
-held_of (Sound x) = some (stream_of x)
-held_of Unsound = none
+abbrev pub held_of : Option Session → Option Stream
+held_of = option_map stream_of

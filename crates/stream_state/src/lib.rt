@@ -21,30 +21,22 @@ pub struct Session {
     pub counts: Counts,
 }
 
-// What a state holds.
-#[derive(Clone, Copy)]
-pub enum Held {
-    Sound(Session),
-    Unsound,
-}
-
 // The stream that a state holds, where a message has a limit.
-pub fn read(limit: usize, state: &[u8]) -> Held
+#[tactic(auto, using(std::proofs::lemmas::Bool::Decides::nat_tests), unfolding(crate::specs::Layout::held, crate::specs::Layout::sound, crate::specs::Layout::read, crate::specs::Stream::stream_of))]
+pub fn read(limit: usize, state: &[u8]) -> Option<Session>
     ensures { held_of result ≡ held limit state.now }
 {
-    let Some(state) = state.as_array::<64>() else {
-        return Held::Unsound;
-    };
+    let state = state.as_array::<64>()?;
     let edition = state[56] as u32;
     let counts = reading::counts(state);
-    let occurs = counts::can_occur(limit, counts);
-    let zero = reading::spare_is_zero(state);
-    if editions::known(edition) & (occurs & zero) {
-        let engine = reading::machine(editions::named(edition), state);
-        Held::Sound(Session { engine, counts })
-    } else {
-        Held::Unsound
+    if !editions::known(edition)
+        || !counts::can_occur(limit, counts)
+        || !reading::spare_is_zero(state)
+    {
+        return None;
     }
+    let engine = reading::machine(editions::named(edition), state);
+    Some(Session { engine, counts })
 }
 
 // Writes a stream to a state of 64 bytes; a state of another size stays as it is.
@@ -52,10 +44,8 @@ pub fn write(x: Session, state: &mut [u8])
     ensures { state.new ≡ cond (eqb (length state.old) state_size) (written (stream_of x)) state.old }
 {
     if state.len() == 64 {
-        let e = x.engine;
-        let edition = e.edition;
-        let g = e.registers;
-        let t = e.tagger;
+        let g = x.engine.registers;
+        let t = x.engine.tagger;
         let words = [
             g.lfsr0,
             g.lfsr1,
@@ -64,20 +54,19 @@ pub fn write(x: Session, state: &mut [u8])
             t.accumulator,
             t.register,
             writing::counts_word(x.counts),
-            writing::edition_word(edition),
+            writing::edition_word(x.engine.edition),
         ];
         writing::store(&words, state);
     }
 }
 
 // The clocks so far. They fit a signed number.
+#[tactic(auto, using(crate::proofs::Few::coded_few, crate::proofs::Few::runs_early), unfolding(crate::specs::Stream::stream_of, crate::specs::Stream::bits_taken, crate::specs::Stream::clocks_so_far, machine::specs::Engine::state_of))]
 pub fn clocks(x: Session) -> usize
     ensures counted { result ≡ clocks_so_far (stream_of x) }
     ensures small { result < 2 ^ 63 }
 {
-    let e = x.engine;
-    let edition = e.edition;
     let c = x.counts;
     let bytes = lengths::coded_size(c.announced as usize) + c.ad as usize + c.message as usize;
-    editions::running_from(edition) + 2 * (8 * bytes + c.phase as usize)
+    editions::running_from(x.engine.edition) + 2 * (8 * bytes + c.phase as usize)
 }

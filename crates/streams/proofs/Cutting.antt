@@ -10,14 +10,12 @@ use borrow.Author.Tests.{ltb-false, not-false}
 use lib.ListN.{length, take, drop, length-append}
 use lib.Seq.{take_at}
 use Rattle.bits.specs.Bit.{digit}
-use Rattle.bits.specs.Bytes.{bytes, same}
+use Rattle.bits.specs.Bytes.{bytes}
 use Rattle.bits.proofs.Packing.{same_equal}
 use Rattle.refusals.specs.declared.Refusal.{Refusal}
 use Rattle.refusals.specs.declared.Refusal.TheVariants.{TagDiffers}
-use Rattle.refusals.specs.declared.Check.{Check}
-use Rattle.refusals.specs.declared.Check.TheVariants.{Passed, Failed}
-use Rattle.refusals.specs.declared.Answer.{Answer}
-use Rattle.refusals.specs.declared.Answer.TheVariants.{Count, Refused}
+use Rattle.refusals.specs.Refusals.{Check, Answer, passed}
+use Rattle.std.specs.Prelude.{Ok, Err}
 use Rattle.refusals.proofs.Demand1.{count-not-refused}
 use Rattle.startup.specs.Editions.{bytes_in}
 use Rattle.startup.specs.Naming.{named}
@@ -150,7 +148,7 @@ module _ (h : History) (k : Kept h) where
       subst (λ (s : List ℕ). LeadsOn (Ad kind s)) (sym none)
       (record { same = ad-stays h (h.output ++ []); kept = subst Kept (ap₂ (λ (s o : List ℕ). with h s h.text o h.ended h.tag) (sym (append-nil h.ad)) (sym (append-nil h.output))) k })
 
-  ad_leads : (kind : Kind) (piece : List ℕ) → judgement_of (Ad kind piece) (reached h).counts ≡ Passed → LeadsOn (Ad kind piece)
+  ad_leads : (kind : Kind) (piece : List ℕ) → judgement_of (Ad kind piece) (reached h).counts ≡ passed → LeadsOn (Ad kind piece)
   ad_leads kind piece passed =
       let turn = turned in
       ⊎_elim (λ (none : h.text ≡ []). ad-first kind piece turn.0 turn.1 none)
@@ -165,7 +163,7 @@ module _ (h : History) (k : Kept h) where
     pub unended : h.ended ≡ false
     pub full : length h.ad ≡ h.announced
 
-  turned : (kind : Kind) (too_long wrong_size no_room : Bool) → judgement (out_of_turn kind (reached h).counts) too_long wrong_size no_room ≡ Passed → InTurn kind
+  turned : (kind : Kind) (too_long wrong_size no_room : Bool) → judgement (out_of_turn kind (reached h).counts) too_long wrong_size no_room ≡ passed → InTurn kind
   unfolding reached
   turned kind too_long wrong_size no_room passed =
       let i = in_turn_lem kind (reached h).counts (passed_clear _ _ _ _ passed).in_turn in
@@ -184,7 +182,7 @@ module _ (h : History) (k : Kept h) where
     tagged = λ ended. absurd (true≢false (sym ended ∙ i.unended));
   }
 
-  message_leads : (piece out : List ℕ) → judgement_of (Message piece out) (reached h).counts ≡ Passed → LeadsOn (Message piece out)
+  message_leads : (piece out : List ℕ) → judgement_of (Message piece out) (reached h).counts ≡ passed → LeadsOn (Message piece out)
   message_leads piece out passed = record {
     same = ap (λ (kind : Kind). with_text kind (reached h) piece) (sym sealing) ∙ text_goes_on h piece output i.unended i.full;
     kept = text_kept piece output i (fitting piece (passed_clear _ _ _ _ passed).fits) handed;
@@ -205,7 +203,7 @@ module _ (h : History) (k : Kept h) where
           ∙ cipher_goes_on h piece output i.unended i.full sealing
           ∙ sym (ap (λ (kind : Kind). handed_out kind (with h h.ad (h.text ++ piece) output h.ended h.tag)) sealing)
 
-  ciphertext_leads : (piece : List ℕ) → judgement_of (Ciphertext piece) (reached h).counts ≡ Passed → LeadsOn (Ciphertext piece)
+  ciphertext_leads : (piece : List ℕ) → judgement_of (Ciphertext piece) (reached h).counts ≡ passed → LeadsOn (Ciphertext piece)
   ciphertext_leads piece passed = record {
     same = ap (λ (kind : Kind). with_text kind (reached h) piece) (sym checking) ∙ text_goes_on h piece (h.output ++ []) i.unended i.full;
     kept = text_kept piece (h.output ++ []) i (fitting piece (passed_clear _ _ _ _ passed).fits) (append-nil h.output ∙ k.output ∙ handed h.kind checking);
@@ -240,22 +238,19 @@ module _ (h : History) (k : Kept h) where
       handed Checking = refl
 
   -- Every call but begin.
-  leads_on : (c : Call) → GoesOn c → judgement_of c (reached h).counts ≡ Passed → wrong_tag c (reached h) ≡ false → LeadsOn c
-  leads_on (Begin kind n key nonce announced) on passed right = absurd on
-  leads_on (Ad kind piece) on passed right = ad_leads kind piece passed
-  leads_on (Message piece out) on passed right = message_leads piece out passed
-  leads_on (Ciphertext piece) on passed right = ciphertext_leads piece passed
-  leads_on (FinishSealing out) on passed right =
-      finish_leads Sealing h.output _ (turned Sealing _ _ _ passed) refl (take_at (tag_of (reached h)) _ tag_size (length-bytes_in (reached h).machine.edition tag_size _))
-  leads_on (FinishChecking given) on passed right =
-      finish_leads Checking (h.output ++ []) given (turned Checking _ _ _ passed) (append-nil h.output) (same_equal given (tag_of (reached h)) (not-false _ right))
+  leads_on : (c : Call) → GoesOn c → judgement_of c (reached h).counts ≡ passed → wrong_tag c (reached h) ≡ false → LeadsOn c
+  leads_on (Begin kind n key nonce announced) on clear right = absurd on
+  leads_on (Ad kind piece) on clear right = ad_leads kind piece clear
+  leads_on (Message piece out) on clear right = message_leads piece out clear
+  leads_on (Ciphertext piece) on clear right = ciphertext_leads piece clear
+  leads_on (FinishSealing out) on clear right =
+      finish_leads Sealing h.output _ (turned Sealing _ _ _ clear) refl (take_at (tag_of (reached h)) _ tag_size (length-bytes_in (reached h).machine.edition tag_size _))
+  leads_on (FinishChecking given) on clear right =
+      finish_leads Checking (h.output ++ []) given (turned Checking _ _ _ clear) (append-nil h.output) (same_equal given (tag_of (reached h)) (not-false _ right))
 
 -- The clocks that are answered are those of the history to which the call leads.
-counted : {a : Answer} {m : ℕ} {x : Stream} {h : History} → a ≡ Count m → a ≡ Count (clocks_so_far x) → Leads x h → m ≡ length (clocks_of h)
-counted p q l = same_count (sym p ∙ q) ∙ ap clocks_so_far l.same ∙ sym (clocked _ l.kept.legal).count
-  where
-    same_count : {i j : ℕ} → Count i ≡ Count j → i ≡ j
-    same_count e = cc
+counted : {a : Answer} {m : ℕ} {x : Stream} {h : History} → a ≡ Ok m → a ≡ Ok (clocks_so_far x) → Leads x h → m ≡ length (clocks_of h)
+counted {h = h} p q l = let k = (clocked h l.kept.legal).count in let same = l.same in cc
 
 -- Begin.
 begin_leads : (kind : Kind) (n : ℕ) (key nonce : List ℕ) (announced : ℕ) {size : ℕ} → Begins n key nonce announced size → Leads (begun kind (named n) key nonce announced) (fresh kind n key nonce announced)
@@ -293,7 +288,7 @@ module _ (p : Play) (c : Call) where
   reached_now = reached p.history
 
   abbrev RefusedNow : Type 0
-  RefusedNow = (r : Refusal) × (called c p.state ≡ step (Refused r) p.state (lent c))
+  RefusedNow = (r : Refusal) × (called c p.state ≡ step (Err r) p.state (lent c))
 
   abbrev AcceptedNow : Type 0
   AcceptedNow =
@@ -313,17 +308,17 @@ module _ (p : Play) (f : Follows p) where
   view_going c on = go (judgement_of c (reached p.history).counts) (wrong_tag c (reached p.history)) refl refl
     where
       go : (d : Check) (b : Bool) → judgement_of c (reached p.history).counts ≡ d → wrong_tag c (reached p.history) ≡ b → RefusedNow p c ⊎ AcceptedNow p c
-      go (Failed r) b j w = inl (r, next-goes c ∙ on_stream_lem c on (reached p.history) p.state (Failed r) b j w)
-      go Passed true j w = inl (TagDiffers, next-goes c ∙ on_stream_lem c on (reached p.history) p.state Passed true j w)
-      go Passed false j w = inr (next-goes c ∙ on_stream_lem c on (reached p.history) p.state Passed false j w, leads_on p.history f.kept c on j w)
+      go (Err r) b j w = inl (r, next-goes c ∙ on_stream_lem c on (reached p.history) p.state (Err r) b j w)
+      go (Ok u) true j w = inl (TagDiffers, next-goes c ∙ on_stream_lem c on (reached p.history) p.state passed true j w)
+      go (Ok u) false j w = inr (next-goes c ∙ on_stream_lem c on (reached p.history) p.state passed false j w, leads_on p.history f.kept c on j w)
 
   view_begin : (kind : Kind) (n : ℕ) (key nonce : List ℕ) (announced : ℕ) → RefusedNow p (Begin kind n key nonce announced) ⊎ AcceptedNow p (Begin kind n key nonce announced)
   unfolding settled
   view_begin kind n key nonce announced = go (begin_judgement kind n key nonce announced p.state) refl
     where
       go : (d : Check) → begin_judgement kind n key nonce announced p.state ≡ d → RefusedNow p (Begin kind n key nonce announced) ⊎ AcceptedNow p (Begin kind n key nonce announced)
-      go (Failed r) j = inl (r, called-begin kind n key nonce announced p.state (Failed r) j)
-      go Passed j = inr (called-begin kind n key nonce announced p.state Passed j, begin_leads kind n key nonce announced (begins kind n key nonce announced p.state j))
+      go (Err r) j = inl (r, called-begin kind n key nonce announced p.state (Err r) j)
+      go (Ok u) j = inr (called-begin kind n key nonce announced p.state passed j, begin_leads kind n key nonce announced (begins kind n key nonce announced p.state j))
 
   view : (c : Call) → RefusedNow p c ⊎ AcceptedNow p c
   view (Begin kind n key nonce announced) = view_begin kind n key nonce announced
@@ -343,19 +338,19 @@ module _ (p : Play) (f : Follows p) where
       goes : AcceptedNow p c → Follows (play p c)
       goes v = subst (λ (t : Step). Follows (after c t p.history)) (sym v.0) (record { state = ap layout.written v.1.same; kept = v.1.kept })
 
-  pub stays : (c : Call) (r : Refusal) → (called c p.state).answer ≡ Refused r → (called c p.state ≡ step (Refused r) p.state (lent c)) × (play p c ≡ p)
+  pub stays : (c : Call) (r : Refusal) → (called c p.state).answer ≡ Err r → (called c p.state ≡ step (Err r) p.state (lent c)) × (play p c ≡ p)
   stays c r e = ⊎_elim refused goes (view c)
     where
-      same-refusal : {q q' : Refusal} → Refused q ≡ Refused q' → q ≡ q'
+      same-refusal : {q q' : Refusal} → ◌≡◌ {A = Answer} (Err q) (Err q') → q ≡ q'
       same-refusal h = cc
 
-      refused : RefusedNow p c → (called c p.state ≡ step (Refused r) p.state (lent c)) × (play p c ≡ p)
-      refused v = (v.1 ∙ ap (λ (q : Refusal). step (Refused q) p.state (lent c)) (same-refusal (sym (ap (λ (t : Step). t.answer) v.1) ∙ e)), ap (λ (t : Step). after c t p.history) v.1)
+      refused : RefusedNow p c → (called c p.state ≡ step (Err r) p.state (lent c)) × (play p c ≡ p)
+      refused v = (v.1 ∙ ap (λ (q : Refusal). step (Err q) p.state (lent c)) (same-refusal (sym (ap (λ (t : Step). t.answer) v.1) ∙ e)), ap (λ (t : Step). after c t p.history) v.1)
 
-      goes : AcceptedNow p c → (called c p.state ≡ step (Refused r) p.state (lent c)) × (play p c ≡ p)
+      goes : AcceptedNow p c → (called c p.state ≡ step (Err r) p.state (lent c)) × (play p c ≡ p)
       goes v = absurd (count-not-refused refl (sym (ap (λ (t : Step). t.answer) v.0) ∙ e))
 
-  pub answers : (c : Call) (n : ℕ) → (called c p.state).answer ≡ Count n → n ≡ length (clocks_of (play p c).history)
+  pub answers : (c : Call) (n : ℕ) → (called c p.state).answer ≡ Ok n → n ≡ length (clocks_of (play p c).history)
   answers c n e = ⊎_elim refused goes (view c)
     where
       refused : RefusedNow p c → n ≡ length (clocks_of (play p c).history)
@@ -375,18 +370,18 @@ module _ (kind : Kind) (n : ℕ) (key nonce : List ℕ) (announced : ℕ) (s : L
   abbrev begin : Call
   begin = Begin kind n key nonce announced
 
-  begin_view : {m : ℕ} → (called begin s).answer ≡ Count m
+  begin_view : {m : ℕ} → (called begin s).answer ≡ Ok m
       → (called begin s ≡ accepted (begun kind (named n) key nonce announced) [] []) × Leads (begun kind (named n) key nonce announced) (fresh kind n key nonce announced)
   unfolding settled
   begin_view a = go (begin_judgement kind n key nonce announced s) refl
     where
       go : (d : Check) → begin_judgement kind n key nonce announced s ≡ d
           → (called begin s ≡ accepted (begun kind (named n) key nonce announced) [] []) × Leads (begun kind (named n) key nonce announced) (fresh kind n key nonce announced)
-      go (Failed r) j = absurd (count-not-refused a (ap (λ (t : Step). t.answer) (called-begin kind n key nonce announced s (Failed r) j)))
-      go Passed j = (called-begin kind n key nonce announced s Passed j, begin_leads kind n key nonce announced (begins kind n key nonce announced s j))
+      go (Err r) j = absurd (count-not-refused a (ap (λ (t : Step). t.answer) (called-begin kind n key nonce announced s (Err r) j)))
+      go (Ok u) j = (called-begin kind n key nonce announced s passed j, begin_leads kind n key nonce announced (begins kind n key nonce announced s j))
 
-  pub begin_follows : {m : ℕ} → (called begin s).answer ≡ Count m → Follows (record { state = (called begin s).state; history = fresh kind n key nonce announced })
+  pub begin_follows : {m : ℕ} → (called begin s).answer ≡ Ok m → Follows (record { state = (called begin s).state; history = fresh kind n key nonce announced })
   begin_follows a = let v = begin_view a in record { state = ap (λ (t : Step). t.state) v.0 ∙ ap layout.written v.1.same; kept = v.1.kept }
 
-  pub begin-answers : (m : ℕ) → (called begin s).answer ≡ Count m → m ≡ length (clocks_of (fresh kind n key nonce announced))
+  pub begin-answers : (m : ℕ) → (called begin s).answer ≡ Ok m → m ≡ length (clocks_of (fresh kind n key nonce announced))
   begin-answers m a = let v = begin_view a in counted a (ap (λ (t : Step). t.answer) v.0) v.1

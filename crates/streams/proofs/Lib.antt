@@ -1,7 +1,7 @@
 pub mod Settled
 pub mod Engines
-pub mod Returned
 pub mod Demand1
+pub mod Answered
 pub mod Reached
 pub mod Cutting
 pub mod Taking

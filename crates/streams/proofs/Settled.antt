@@ -4,23 +4,21 @@ use mathlib.Core.Path.{◌≡◌, refl, sym, ap, ap₂, ◌∙◌}
 use mathlib.Core.Logic.{◌≢◌}
 use mathlib.Core.Bool.{Bool, true, false, cond, not}
 use mathlib.Core.List.{List, [], ◌∷◌}
-use mathlib.Core.Option.{none, some, some-injective, none-ne-some}
 use Prim.Native.Nat.{ℕ, ◌+◌, ◌<◌, ◌≤◌}
 use native.Mathlib.Omega.{arith}
-use borrow.Author.Tests.{eq-eqb, eqb-true, ltb-false, le-ltb, not-false}
+use borrow.Author.Tests.{eq-eqb, ltb-false, le-ltb}
 use lib.Dec.{eqb, ltb}
 use lib.ListN.{length}
-use Rattle.bits.specs.Bytes.{Bytes, same}
+use Rattle.bits.specs.Bytes.{same}
 use Rattle.refusals.specs.declared.Refusal.{Refusal}
 use Rattle.refusals.specs.declared.Refusal.TheVariants.{KeySize, NonceSize, AdTooLong, TagDiffers, UnsoundState, BlankKey, UnknownEdition}
-use Rattle.refusals.specs.declared.Check.{Check}
-use Rattle.refusals.specs.declared.Check.TheVariants.{Passed, Failed}
-use Rattle.refusals.specs.declared.Answer.{Answer}
-use Rattle.refusals.specs.declared.Answer.TheVariants.{Count, Refused}
-use Rattle.refusals.specs.Refusals.{Row, ◌when◌, among, after, check}
+use Rattle.refusals.specs.Refusals.{Check, Answer, Row, ◌when◌, among, after, check, passed}
+use Rattle.std.specs.Prelude.{Option, None, Some, Ok, Err, MatchResult}
+use Rattle.std.specs.Option.{ok_or}
+use Rattle.std.proofs.lemmas.Bool.Decides.{nat_tests}
 use Rattle.refusals.proofs.LastRow.{check-last}
 use Rattle.key.specs.Sizes.{key_size, nonce_size}
-use Rattle.key.specs.BlankKey.{blank_key, is_blank}
+use Rattle.key.specs.BlankKey.{blank_key}
 use Rattle.key.proofs.BlankKey.{not_blank, unequal_not_blank}
 use Rattle.startup.specs.Naming.{known, named}
 use Rattle.payload.specs.Sizes.{tag_size}
@@ -33,57 +31,32 @@ use Rattle.stream_checks.specs.Counts.{ad_out_of_turn, out_of_turn, too_long}
 use Rattle.stream_checks.specs.Order.{beginning, before_tag, others}
 use Rattle.stream_checks.specs.Rows.{state_size, begin_rows, rows}
 use Rattle.stream_state.specs.declared.Session.{Session}
-use Rattle.stream_state.specs.declared.Held.{Held}
-use Rattle.stream_state.specs.declared.Held.TheVariants.{Sound, Unsound}
 use Rattle.stream_state.specs.Stream.{Stream, stream_of, clocks_so_far}
 use Rattle.stream_state.specs.Layout as layout
 use Rattle.stream_state.specs.Layout.{read, sound, held, held_of}
-use Rattle.stream_state.proofs.Inverse.{soundly, inverse}
-use Rattle.streams.specs.Going.{begun, tag_of}
+use Rattle.stream_state.proofs.Inverse.{soundly}
+use Rattle.streams.specs.Going.{Holds, begun, tag_of}
 use Rattle.streams.specs.Calls.{Call, Begin, Ad, Message, Ciphertext, FinishSealing, FinishChecking, order, next, produced, lent, step, accepted, settled, on_stream, called}
 use Rattle.streams.specs.Calls as calls
 
 -- ---- what the state holds
 
-module _ (s : List ℕ) where
-  pub unsound : {r : Held} → held_of r ≡ held message_limit s → r ≡ Unsound → sound message_limit s ≡ false
-  unfolding held
-  unsound h e = go (sound message_limit s) (sym (ap held_of e) ∙ h)
-    where
-      go : (b : Bool) → none ≡ cond b (some (read s)) none → b ≡ false
-      go true k = absurd (none-ne-some _ k)
-      go false k = refl
+-- What reading it comes to.
+pub got : (s : List ℕ) (r : Option Session) → held_of r ≡ held message_limit s
+    → MatchResult (ok_or r UnsoundState) (λ x. Holds s x) (λ q. (q ≡ UnsoundState) × (sound message_limit s ≡ false))
+unfolding held
+got s None h = (refl, grind (arith, nat_tests))
+got s (Some x) h = record { soundly = grind (arith, nat_tests); stream = grind (arith, nat_tests) }
 
--- The state is sound, and is read as this stream.
-pub record Holding (s : List ℕ) (x : Session) : Type 0 where
-  pub held : held_of (Sound x) ≡ held message_limit s
-
-module _ {s : List ℕ} {x : Session} (h : Holding s x) where
-  holds : (sound message_limit s ≡ true) × (read s ≡ stream_of x)
-  unfolding held
-  holds = go (sound message_limit s) h.held
-    where
-      go : (b : Bool) → some (stream_of x) ≡ cond b (some (read s)) none → (b ≡ true) × (read s ≡ stream_of x)
-      go true k = (refl, sym (some-injective _ _ k))
-      go false k = absurd (none-ne-some _ (sym k))
-
+module _ {s : List ℕ} {x : Session} (h : Holds s x) where
   pub state-sized : length s ≡ state_size
-  state-sized = (soundly message_limit s holds.0).size
-
-  pub announced-small : Bytes s → x.counts.announced < 65536
-  unfolding stream_of
-  announced-small is_bytes = rw (ap (λ (y : Stream). y.counts.announced) holds.1) at ((inverse message_limit).occurs s is_bytes holds.0).announced
+  state-sized = (soundly message_limit s h.soundly).size
 
   called-sound : (c : Call) → called c s ≡ on_stream c false (stream_of x) s
   unfolding called
-  called-sound c = ap₂ (λ (b : Bool) (y : Stream). on_stream c (not b) y s) holds.0 holds.1
+  called-sound c = ap₂ (λ (b : Bool) (y : Stream). on_stream c (not b) y s) h.soundly h.stream
 
 -- ---- the rows before the tag's
-
--- A row that is not the answer does not apply, and the others are tried.
-row_passed : (b : Bool) (r : Refusal) (c : Check) → cond b (Failed r) c ≡ Passed → (b ≡ false) × (c ≡ Passed)
-row_passed true r c h = let z : ◌≡◌ {A = ℕ} 0 1 = cc in absurd (omega arith)
-row_passed false r c h = (refl, h)
 
 module _ (out_of_turn too_long wrong_size no_room : Bool) where
   -- What the rows before the tag's come to on a sound state.
@@ -96,16 +69,11 @@ module _ (out_of_turn too_long wrong_size no_room : Bool) where
     pub sized : wrong_size ≡ false
     pub room : no_room ≡ false
 
-  pub passed_clear : judgement ≡ Passed → NoneApplies
+  pub passed_clear : judgement ≡ passed → NoneApplies
   unfolding before_tag rows among check
-  passed_clear h =
-      let a = row_passed out_of_turn _ _ h in
-      let b = row_passed too_long _ _ a.1 in
-      let c = row_passed wrong_size _ _ b.1 in
-      let d = row_passed no_room _ _ c.1 in
-      record { in_turn = a.0; fits = b.0; sized = c.0; room = d.0 }
+  passed_clear h = record { in_turn = grind (arith, nat_tests); fits = grind (arith, nat_tests); sized = grind (arith, nat_tests); room = grind (arith, nat_tests) }
 
-  pub clear_passed : NoneApplies → judgement ≡ Passed
+  pub clear_passed : NoneApplies → judgement ≡ passed
   unfolding before_tag rows among check
   clear_passed clear = λ i. check before_tag (among (rows false (clear.in_turn i) (clear.fits i) (clear.sized i) (clear.room i) false))
 
@@ -116,7 +84,7 @@ message_fits_lem c n h = omega (arith, ltb-false message_limit (c.message + n) h
 
 -- Of each call but begin: which rows before the tag's apply, and whether the tag's does.
 abbrev pub judgement_of : Call → Counts → Check
-judgement_of (Begin kind n key nonce announced) c = Passed
+judgement_of (Begin kind n key nonce announced) c = passed
 judgement_of (Ad kind piece) c = judgement (ad_out_of_turn kind c (length piece)) false false false
 judgement_of (Message piece out) c = judgement (out_of_turn Sealing c) (too_long message_limit c (length piece)) false (ltb (length out) (length piece))
 judgement_of (Ciphertext piece) c = judgement (out_of_turn Checking c) (too_long message_limit c (length piece)) false false
@@ -144,7 +112,7 @@ going_check : (o t w n d : Bool) → check others (among (rows false o t w n d))
 unfolding others before_tag rows among check
 going_check o t w n d = check-last before_tag TagDiffers (among (rows false o t w n d))
 
-going_unsound : (o t w n d : Bool) → check others (among (rows true o t w n d)) ≡ Failed UnsoundState
+going_unsound : (o t w n d : Bool) → check others (among (rows true o t w n d)) ≡ Err UnsoundState
 unfolding others before_tag rows among check
 going_unsound o t w n d = refl
 
@@ -156,7 +124,7 @@ by_judgement (Ciphertext piece) on size x = going_check _ _ _ _ _
 by_judgement (FinishSealing out) on size x = going_check _ _ _ _ _
 by_judgement (FinishChecking tag) on size x = going_check _ _ _ _ _
 
-not_sound : (c : Call) → GoesOn c → (size : ℕ) (x : Stream) → check (order c) (among (calls.rows c size true x)) ≡ Failed UnsoundState
+not_sound : (c : Call) → GoesOn c → (size : ℕ) (x : Stream) → check (order c) (among (calls.rows c size true x)) ≡ Err UnsoundState
 not_sound (Begin kind n key nonce announced) on size x = absurd on
 not_sound (Ad kind piece) on size x = going_unsound _ _ _ _ _
 not_sound (Message piece out) on size x = going_unsound _ _ _ _ _
@@ -165,7 +133,7 @@ not_sound (FinishSealing out) on size x = going_unsound _ _ _ _ _
 not_sound (FinishChecking tag) on size x = going_unsound _ _ _ _ _
 
 module _ (c : Call) (on : GoesOn c) where
-  pub called_unsound : (s : List ℕ) → sound message_limit s ≡ false → step (Refused UnsoundState) s (lent c) ≡ called c s
+  pub called_unsound : (s : List ℕ) → sound message_limit s ≡ false → step (Err UnsoundState) s (lent c) ≡ called c s
   unfolding called settled
   called_unsound s h =
       sym (ap (λ (b : Bool). on_stream c (not b) (read s) s) h ∙ ap (λ (d : Check). settled d (next c (read s)) (produced c (read s)) s (lent c)) (not_sound c on (length s) (read s)))
@@ -175,27 +143,27 @@ module _ (c : Call) (on : GoesOn c) where
       → on_stream c false x s ≡ settled (after d TagDiffers b) (next c x) (produced c x) s (lent c)
   on_stream_lem x s d b h k = ap (λ (e : Check). settled e (next c x) (produced c x) s (lent c)) (by_judgement c on (length s) x ∙ ap₂ (λ (e : Check) (t : Bool). after e TagDiffers t) h k)
 
-  module _ {s : List ℕ} {x : Session} (h : Holding s x) where
-    pub called_failed : {q : Refusal} → judgement_of c x.counts ≡ Failed q → step (Refused q) s (lent c) ≡ called c s
+  module _ {s : List ℕ} {x : Session} (h : Holds s x) where
+    pub called_failed : {q : Refusal} → judgement_of c x.counts ≡ Err q → step (Err q) s (lent c) ≡ called c s
     unfolding settled stream_of
-    called_failed {q} j = sym (called-sound h c ∙ on_stream_lem (stream_of x) s (Failed q) _ j refl)
+    called_failed {q} j = sym (called-sound h c ∙ on_stream_lem (stream_of x) s (Err q) _ j refl)
 
-    pub called_passed : judgement_of c x.counts ≡ Passed → wrong_tag c (stream_of x) ≡ false → accepted (next c (stream_of x)) (produced c (stream_of x)) (lent c) ≡ called c s
+    pub called_passed : judgement_of c x.counts ≡ passed → wrong_tag c (stream_of x) ≡ false → accepted (next c (stream_of x)) (produced c (stream_of x)) (lent c) ≡ called c s
     unfolding settled stream_of
-    called_passed j t = sym (called-sound h c ∙ on_stream_lem (stream_of x) s Passed false j t)
+    called_passed j t = sym (called-sound h c ∙ on_stream_lem (stream_of x) s passed false j t)
 
-    pub called_differs : judgement_of c x.counts ≡ Passed → wrong_tag c (stream_of x) ≡ true → step (Refused TagDiffers) s (lent c) ≡ called c s
+    pub called_differs : judgement_of c x.counts ≡ passed → wrong_tag c (stream_of x) ≡ true → step (Err TagDiffers) s (lent c) ≡ called c s
     unfolding settled stream_of
-    called_differs j t = sym (called-sound h c ∙ on_stream_lem (stream_of x) s Passed true j t)
+    called_differs j t = sym (called-sound h c ∙ on_stream_lem (stream_of x) s passed true j t)
 
 -- ---- a stream that goes on
 
 -- What writing a stream and answering its clocks comes to, with the output that was written before.
 pub put_step : (y : Session) {x : Stream} (s : List ℕ) {exit out o : List ℕ} {a : Answer} → length s ≡ state_size → stream_of y ≡ x
-    → a ≡ Count (clocks_so_far (stream_of y)) → exit ≡ cond (eqb (length s) state_size) (layout.written (stream_of y)) s → out ≡ o
-    → step a exit out ≡ step (Count (clocks_so_far x)) (layout.written x) o
+    → a ≡ Ok (clocks_so_far (stream_of y)) → exit ≡ cond (eqb (length s) state_size) (layout.written (stream_of y)) s → out ≡ o
+    → step a exit out ≡ step (Ok (clocks_so_far x)) (layout.written x) o
 put_step y {x} s size same counted stored e = λ i. step
-    ((counted ∙ ap (λ (z : Stream). Count (clocks_so_far z)) same) i)
+    ((counted ∙ ap (λ (z : Stream). Ok (clocks_so_far z)) same) i)
     ((stored ∙ ap (λ (b : Bool). cond b (layout.written (stream_of y)) s) (eq-eqb (length s) state_size size) ∙ ap layout.written same) i)
     (e i)
 
@@ -214,25 +182,18 @@ module _ (kind : Kind) (n : ℕ) (key nonce : List ℕ) (announced : ℕ) (s : L
   abbrev pub begin_judgement : Check
   begin_judgement = check beginning (among (begin_rows (not (known n)) key nonce announced ad_limit (length s)))
 
-  pub begins : begin_judgement ≡ Passed → Begins n key nonce announced (length s)
+  pub begins : begin_judgement ≡ passed → Begins n key nonce announced (length s)
   unfolding beginning begin_rows among check
-  begins h =
-      let e = row_passed (not (known n)) _ _ h in
-      let k = row_passed (not (eqb (length key) key_size)) _ _ e.1 in
-      let m = row_passed (not (eqb (length nonce) nonce_size)) _ _ k.1 in
-      let b = row_passed (is_blank key) _ _ m.1 in
-      let a = row_passed (ltb ad_limit announced) _ _ b.1 in
-      let z = row_passed (not (eqb (length s) state_size)) _ _ a.1 in
-      record {
-        edition = not-false (known n) e.0;
-        key_sized = eqb-true (length key) key_size (not-false _ k.0);
-        nonce_sized = eqb-true (length nonce) nonce_size (not-false _ m.0);
-        key_not_blank = not_blank key b.0;
-        ad_fits = ltb-false ad_limit announced a.0;
-        sized = eqb-true (length s) state_size (not-false _ z.0);
-      }
+  begins h = record {
+    edition = grind (arith, nat_tests);
+    key_sized = grind (arith, nat_tests);
+    nonce_sized = grind (arith, nat_tests);
+    key_not_blank = not_blank key (grind (arith, nat_tests));
+    ad_fits = grind (arith, nat_tests);
+    sized = grind (arith, nat_tests);
+  }
 
-  pub begins_passed : Begins n key nonce announced (length s) → begin_judgement ≡ Passed
+  pub begins_passed : Begins n key nonce announced (length s) → begin_judgement ≡ passed
   unfolding beginning begin_rows among check
   begins_passed b = λ i. check beginning (among (rows_of (ap not b.edition i) (ap not (eq-eqb (length key) key_size b.key_sized) i) (ap not (eq-eqb (length nonce) nonce_size b.nonce_sized) i) (unequal_not_blank key b.key_not_blank i) (le-ltb ad_limit announced b.ad_fits i) (ap not (eq-eqb (length s) state_size b.sized) i)))
     where
@@ -243,10 +204,10 @@ module _ (kind : Kind) (n : ℕ) (key nonce : List ℕ) (announced : ℕ) (s : L
   unfolding called
   called-begin d h = ap (λ (c : Check). settled c (begun kind (named n) key nonce announced) [] s []) h
 
-  pub begin_failed : {q : Refusal} → begin_judgement ≡ Failed q → step (Refused q) s [] ≡ called (Begin kind n key nonce announced) s
+  pub begin_failed : {q : Refusal} → begin_judgement ≡ Err q → step (Err q) s [] ≡ called (Begin kind n key nonce announced) s
   unfolding settled
-  begin_failed {q} h = sym (called-begin (Failed q) h)
+  begin_failed {q} h = sym (called-begin (Err q) h)
 
-  pub begin_passed : begin_judgement ≡ Passed → accepted (begun kind (named n) key nonce announced) [] [] ≡ called (Begin kind n key nonce announced) s
+  pub begin_passed : begin_judgement ≡ passed → accepted (begun kind (named n) key nonce announced) [] [] ≡ called (Begin kind n key nonce announced) s
   unfolding settled
-  begin_passed h = sym (called-begin Passed h)
+  begin_passed h = sym (called-begin passed h)

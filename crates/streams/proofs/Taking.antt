@@ -11,9 +11,8 @@ use Rattle.bits.specs.Bit.{digit}
 use Rattle.bits.specs.Bytes.{same}
 use Rattle.bits.proofs.Packing.{same_equal, equal_same}
 use Rattle.refusals.specs.declared.Refusal.TheVariants.{TagDiffers}
-use Rattle.refusals.specs.declared.Check.{Check}
-use Rattle.refusals.specs.declared.Check.TheVariants.{Passed, Failed}
-use Rattle.refusals.specs.Refusals.{after}
+use Rattle.refusals.specs.Refusals.{Check, after, passed}
+use Rattle.std.specs.Prelude.{Ok, Err}
 use Rattle.refusals.proofs.Demand1.{count-not-refused}
 use Rattle.payload.specs.Sizes.{tag_size}
 use Rattle.limits.specs.Limits.{message_limit}
@@ -49,7 +48,7 @@ module _ (h : History) where
   turn_on kind k u full = in_turn-text kind (reached h).counts (its kind k u) full
 
   -- The rows of a call pass, and its tag is right, exactly when the call is to be taken.
-  pub rows_take : (c : Call) (size : ℕ) → GoesOn c → ((judgement_of c (reached h).counts ≡ Passed) × (wrong_tag c (reached h) ≡ false)) ↔ Taking c size h
+  pub rows_take : (c : Call) (size : ℕ) → GoesOn c → ((judgement_of c (reached h).counts ≡ passed) × (wrong_tag c (reached h) ≡ false)) ↔ Taking c size h
   unfolding reached
   rows_take (Begin kind n key nonce announced) size on = absurd on
   rows_take (Ad kind piece) size on = (
@@ -89,7 +88,7 @@ module _ (h : History) where
   )
 
 module _ (p : Play) (f : Follows p) where
-  accepts_going : (c : Call) → GoesOn c → Accepts (called c p.state) ↔ ((judgement_of c (reached p.history).counts ≡ Passed) × (wrong_tag c (reached p.history) ≡ false))
+  accepts_going : (c : Call) → GoesOn c → Accepts (called c p.state) ↔ ((judgement_of c (reached p.history).counts ≡ passed) × (wrong_tag c (reached p.history) ≡ false))
   unfolding settled
   accepts_going c on = go (judgement_of c (reached p.history).counts) (wrong_tag c (reached p.history)) refl refl
     where
@@ -97,22 +96,22 @@ module _ (p : Play) (f : Follows p) where
       answer d b j w = ap (λ (t : Step). t.answer) (next-goes p f c ∙ on_stream_lem c on (reached p.history) p.state d b j w)
 
       go : (d : Check) (b : Bool) → judgement_of c (reached p.history).counts ≡ d → wrong_tag c (reached p.history) ≡ b
-          → Accepts (called c p.state) ↔ ((judgement_of c (reached p.history).counts ≡ Passed) × (wrong_tag c (reached p.history) ≡ false))
-      go Passed false j w = (λ a. (j, w), λ v. (_, answer Passed false j w))
-      go Passed true j w = (λ a. absurd (count-not-refused a.1 (answer Passed true j w)), λ v. (_, answer Passed false v.0 v.1))
-      go (Failed r) b j w = (λ a. absurd (count-not-refused a.1 (answer (Failed r) b j w)), λ v. (_, answer Passed false v.0 v.1))
+          → Accepts (called c p.state) ↔ ((judgement_of c (reached p.history).counts ≡ passed) × (wrong_tag c (reached p.history) ≡ false))
+      go (Ok u) false j w = (λ a. (j, w), λ v. (_, answer passed false j w))
+      go (Ok u) true j w = (λ a. absurd (count-not-refused a.1 (answer passed true j w)), λ v. (_, answer passed false v.0 v.1))
+      go (Err r) b j w = (λ a. absurd (count-not-refused a.1 (answer (Err r) b j w)), λ v. (_, answer passed false v.0 v.1))
 
   accepts-begin : (kind : Kind) (n : ℕ) (key nonce : List ℕ) (announced : ℕ) → Accepts (called (Begin kind n key nonce announced) p.state) ↔ Begins n key nonce announced (length p.state)
   unfolding settled
   accepts-begin kind n key nonce announced = go (begin_judgement kind n key nonce announced p.state) refl
     where
-      begins_if : begin_judgement kind n key nonce announced p.state ≡ Passed → Accepts (called (Begin kind n key nonce announced) p.state)
-      begins_if j = (_, ap (λ (t : Step). t.answer) (called-begin kind n key nonce announced p.state Passed j))
+      begins_if : begin_judgement kind n key nonce announced p.state ≡ passed → Accepts (called (Begin kind n key nonce announced) p.state)
+      begins_if j = (_, ap (λ (t : Step). t.answer) (called-begin kind n key nonce announced p.state passed j))
 
       go : (d : Check) → begin_judgement kind n key nonce announced p.state ≡ d → Accepts (called (Begin kind n key nonce announced) p.state) ↔ Begins n key nonce announced (length p.state)
-      go Passed j = (λ a. begins kind n key nonce announced p.state j, λ b. begins_if j)
-      go (Failed r) j = (
-        λ a. absurd (count-not-refused a.1 (ap (λ (t : Step). t.answer) (called-begin kind n key nonce announced p.state (Failed r) j))),
+      go (Ok u) j = (λ a. begins kind n key nonce announced p.state j, λ b. begins_if j)
+      go (Err r) j = (
+        λ a. absurd (count-not-refused a.1 (ap (λ (t : Step). t.answer) (called-begin kind n key nonce announced p.state (Err r) j))),
         λ b. begins_if (begins_passed kind n key nonce announced p.state b),
       )
 

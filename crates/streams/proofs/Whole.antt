@@ -14,10 +14,8 @@ use Rattle.bits.specs.Bytes.{same}
 use Rattle.bits.proofs.Packing.{equal_same}
 use Rattle.refusals.specs.declared.Refusal.{Refusal}
 use Rattle.refusals.specs.declared.Refusal.TheVariants.{TagDiffers, UnsoundState}
-use Rattle.refusals.specs.declared.Check.{Check}
-use Rattle.refusals.specs.declared.Check.TheVariants.{Passed, Failed}
-use Rattle.refusals.specs.declared.Answer.TheVariants.{Refused}
-use Rattle.refusals.specs.Refusals.{after}
+use Rattle.refusals.specs.Refusals.{Check, after, passed}
+use Rattle.std.specs.Prelude.{Ok, Err}
 use Rattle.refusals.specs.Outcome.{Outcome, success, refused}
 use Rattle.refusals.proofs.Demand1.{count-not-refused}
 use Rattle.tagged.proofs.Parts.{ciphertext_part-joined, tag_part-joined}
@@ -38,7 +36,7 @@ use Rattle.stream_state.specs.Layout.{sound}
 use Rattle.streams.specs.Going.{is_sealing, finished}
 use Rattle.streams.specs.Calls.{Begin, Ad, Message, Ciphertext, FinishSealing, FinishChecking, Step, step, settled, called}
 use Rattle.streams.specs.History.{History, Play, played, message, reached}
-use Rattle.streams.specs.Cutting.{Legal, handed_out, Verdict, Cut, AnyCutting, OtherLength}
+use Rattle.streams.specs.Cutting.{handed_out, Verdict, Cut, AnyCutting, OtherLength}
 use Rattle.streams.proofs.Reached.{clocked, tag-reached, taken-whole, taken_begins}
 use Rattle.streams.proofs.Settled.{judgement, clear_passed, called_unsound, on_stream_lem, begin_judgement, begins, begin_failed}
 use Rattle.streams.proofs.Taking.{takes}
@@ -87,7 +85,7 @@ module _ (h : History) (k : Kept h) (full : length h.ad ≡ h.announced) where
 
 -- ---- the end of a checking stream
 
-settled-verdict : (b : Bool) (x : Stream) (s m out : List ℕ) → Verdict (settled (after Passed TagDiffers b) x [] s []) (cond b (refused TagDiffers out) (success m out))
+settled-verdict : (b : Bool) (x : Stream) (s m out : List ℕ) → Verdict (settled (after passed TagDiffers b) x [] s []) (cond b (refused TagDiffers out) (success m out))
 unfolding settled
 settled-verdict true x s m out = record {
   accepts = (λ a. absurd (count-not-refused a.1 refl), λ a. absurd (count-not-refused a.1 refl));
@@ -110,7 +108,7 @@ module _ (p : Play) (f : Follows p) where
   goes_as_opening kind unended full given out eight room =
       subst (λ (o : Outcome). Verdict (called (FinishChecking given) p.state) o) (sym (opened_by h f.kept full kind given out eight room))
       (subst (λ (t : Step). Verdict t (cond differs (refused TagDiffers out) (success (message h) out)))
-      (sym (next-goes p f (FinishChecking given) ∙ on_stream_lem (FinishChecking given) tt (reached h) p.state Passed differs passed (ap (λ (t : List ℕ). not (same given t)) (tag-reached h unended full))))
+      (sym (next-goes p f (FinishChecking given) ∙ on_stream_lem (FinishChecking given) tt (reached h) p.state passed differs clear (ap (λ (t : List ℕ). not (same given t)) (tag-reached h unended full))))
       (settled-verdict differs (finished (reached h)) p.state (message h) out))
     where
       differs : Bool
@@ -119,8 +117,8 @@ module _ (p : Play) (f : Follows p) where
       turn : out_of_turn Checking (reached h).counts ≡ false
       turn = unfold reached in (in_turn-text Checking (reached h).counts (record { kinds = ap number kind; unended = ap digit unended }) full)
 
-      passed : judgement (out_of_turn Checking (reached h).counts) false (not (eqb (length given) tag_size)) false ≡ Passed
-      passed = clear_passed _ _ _ _ (record { in_turn = turn; fits = refl; sized = ap not (eq-eqb (length given) tag_size eight); room = refl })
+      clear : judgement (out_of_turn Checking (reached h).counts) false (not (eqb (length given) tag_size)) false ≡ passed
+      clear = clear_passed _ _ _ _ (record { in_turn = turn; fits = refl; sized = ap not (eq-eqb (length given) tag_size eight); room = refl })
 
   pub cut : Cut p
   unfolding h
@@ -154,9 +152,9 @@ not-sized s other = rw (ne_eqb (length s) state_size other) refl
 pub other_length : OtherLength
 other_length (Begin kind n key nonce announced) s other = go (begin_judgement kind n key nonce announced s) refl
   where
-    go : (d : Check) → begin_judgement kind n key nonce announced s ≡ d → (r : Refusal) × (called (Begin kind n key nonce announced) s ≡ step (Refused r) s [])
-    go Passed j = absurd (other (begins kind n key nonce announced s j).sized)
-    go (Failed r) j = (r, sym (begin_failed kind n key nonce announced s j))
+    go : (d : Check) → begin_judgement kind n key nonce announced s ≡ d → (r : Refusal) × (called (Begin kind n key nonce announced) s ≡ step (Err r) s [])
+    go (Ok u) j = absurd (other (begins kind n key nonce announced s j).sized)
+    go (Err r) j = (r, sym (begin_failed kind n key nonce announced s j))
 other_length (Ad kind piece) s other = (UnsoundState, sym (called_unsound (Ad kind piece) tt s (not-sized s other)))
 other_length (Message piece out) s other = (UnsoundState, sym (called_unsound (Message piece out) tt s (not-sized s other)))
 other_length (Ciphertext piece) s other = (UnsoundState, sym (called_unsound (Ciphertext piece) tt s (not-sized s other)))

@@ -3,11 +3,8 @@
 use Rattle.std.specs.Prelude.{Bool, false, not, List, [], ◌++◌, ℕ, eqb, ltb, length, drop}
 use Rattle.bits.specs.Bytes.{same}
 use Rattle.refusals.specs.declared.Refusal.{Refusal}
-use Rattle.refusals.specs.declared.Check.{Check}
-use Rattle.refusals.specs.declared.Check.TheVariants.{Passed, Failed}
-use Rattle.refusals.specs.declared.Answer.{Answer}
-use Rattle.refusals.specs.declared.Answer.TheVariants.{Count, Refused}
-use Rattle.refusals.specs.Refusals.{Row, among, check}
+use Rattle.refusals.specs.Refusals.{Check, Answer, Row, among, check}
+use Rattle.std.specs.Prelude.{Ok, Err}
 use Rattle.startup.specs.Naming.{known, named}
 use Rattle.payload.specs.Sizes.{tag_size}
 use Rattle.limits.specs.Limits.{message_limit}
@@ -90,12 +87,12 @@ step answer state output = record { answer = answer; state = state; output = out
 
 -- An accepted call answers the clocks so far, leaves the stream as it goes on in the state, and what it writes at the front of the output.
 abbrev pub accepted : Stream → (written out : List ℕ) → Step
-accepted x written out = step (Count (clocks_so_far x)) (layout.written x) (written ++ drop (length written) out)
+accepted x written out = step (Ok (clocks_so_far x)) (layout.written x) (written ++ drop (length written) out)
 
 -- A refusal leaves state and output as lent.
 unfoldable pub settled : Check → Stream → (written state out : List ℕ) → Step
-settled Passed x written state out = accepted x written out
-settled (Failed r) x written state out = step (Refused r) state out
+settled (Ok u) x written state out = accepted x written out
+settled (Err r) x written state out = step (Err r) state out
 
 -- A call on a state of so many bytes, sound or not, that is read as x.
 abbrev pub on_stream : Call → (unsound : Bool) → Stream → (state : List ℕ) → Step

@@ -4,7 +4,7 @@ use Rattle.std.specs.Prelude.{◌≡◌, ◌↔◌, ◌≢◌, ◌⊎◌, Bool, 
 use Rattle.bits.specs.Times.{in_turn}
 use Rattle.refusals.specs.declared.Refusal.{Refusal}
 use Rattle.refusals.specs.declared.Refusal.TheVariants.{TagDiffers}
-use Rattle.refusals.specs.declared.Answer.TheVariants.{Count, Refused}
+use Rattle.std.specs.Prelude.{Ok, Err}
 use Rattle.refusals.specs.Outcome.{Outcome, success}
 use Rattle.refusals.specs.Demand1 as any_call
 use Rattle.key.specs.Sizes.{key_size, nonce_size}
@@ -78,8 +78,8 @@ Taking (FinishChecking given) size h =
 -- The end of a checking stream with a tag goes as opening the whole input does: it accepts exactly when that does, and is refusal 7 exactly when that is.
 pub record Verdict (t : Step) (o : Outcome) : Type 0 where
   pub accepts : Accepts t ↔ any_call.Accepts o
-  pub refuses : (t.answer ≡ Refused TagDiffers) ↔ (o.answer ≡ Refused TagDiffers)
-  pub one_of_both : Accepts t ⊎ (t.answer ≡ Refused TagDiffers)
+  pub refuses : (t.answer ≡ Err TagDiffers) ↔ (o.answer ≡ Err TagDiffers)
+  pub one_of_both : Accepts t ⊎ (t.answer ≡ Err TagDiffers)
 
 -- Of a state and its history.
 pub record Cut (p : Play) : Type 0 where
@@ -102,20 +102,20 @@ pub record Cut (p : Play) : Type 0 where
   pub next : (c : Call) → called c p.state ≡ on_stream c false (reached p.history) p.state
   pub takes : (c : Call) → Accepts (called c p.state) ↔ Taking c (length p.state) p.history
   -- Where it is accepted, it answers the number of the published machine's clocks then.
-  pub answers : (c : Call) (n : ℕ) → (called c p.state).answer ≡ Count n → n ≡ length (clocks_of (play p c).history)
+  pub answers : (c : Call) (n : ℕ) → (called c p.state).answer ≡ Ok n → n ≡ length (clocks_of (play p c).history)
   pub clocked : Clocked p.history
   -- Where it is refused, state, history and what was lent for its output are as before.
-  pub refused : (c : Call) (r : Refusal) → (called c p.state).answer ≡ Refused r → (called c p.state ≡ step (Refused r) p.state (lent c)) × (play p c ≡ p)
+  pub refused : (c : Call) (r : Refusal) → (called c p.state).answer ≡ Err r → (called c p.state ≡ step (Err r) p.state (lent c)) × (play p c ≡ p)
   pub legal : Legal p.history
 
 -- After a begin that is accepted, whatever the state held before: it answers the number of the published machine's clocks, and any calls after it, however
 -- many and in whatever order, lead to a state and a history of which all this holds.
 abbrev pub AnyCutting : Type 0
 AnyCutting =
-    (kind : Kind) (n : ℕ) (key nonce : List ℕ) (announced : ℕ) (state : List ℕ) (m : ℕ) → (called (Begin kind n key nonce announced) state).answer ≡ Count m
+    (kind : Kind) (n : ℕ) (key nonce : List ℕ) (announced : ℕ) (state : List ℕ) (m : ℕ) → (called (Begin kind n key nonce announced) state).answer ≡ Ok m
     → (m ≡ length (clocks_of (fresh kind n key nonce announced)))
     × ((calls : List Call) → Cut (played (record { state = (called (Begin kind n key nonce announced) state).state; history = fresh kind n key nonce announced }) calls))
 
 -- The calls of such a sequence are told all 64 bytes. One that is told another length is refused and leaves all as lent, so that it may stand anywhere between.
 abbrev pub OtherLength : Type 0
-OtherLength = (c : Call) (state : List ℕ) → length state ≢ state_size → (r : Refusal) × (called c state ≡ step (Refused r) state (lent c))
+OtherLength = (c : Call) (state : List ℕ) → length state ≢ state_size → (r : Refusal) × (called c state ≡ step (Err r) state (lent c))

@@ -1,5 +1,5 @@
 -- How a stream goes on (document 02, C-13): the string bits that each call has the machine take, what comes out, and what is counted.
-use Rattle.std.specs.Prelude.{Bool, true, false, List, [], ◌∷◌, ℕ, ◌+◌, length}
+use Rattle.std.specs.Prelude.{◌≡◌, Bool, true, false, List, [], ◌∷◌, ℕ, ◌+◌, length}
 use Rattle.machine.specs.declared.edition.Edition.{Edition}
 use Rattle.machine.specs.Machine.{State, run, encipher, decipher}
 use Rattle.startup.specs.Editions.{bits_in, bytes_in, initialised}
@@ -9,11 +9,19 @@ use Rattle.stream_checks.specs.declared.counts.Kind.{Kind}
 use Rattle.stream_checks.specs.declared.counts.Kind.TheVariants.{Sealing, Checking}
 use Rattle.stream_checks.specs.declared.counts.Counts.{Counts}
 use Rattle.stream_checks.specs.Counts.{number}
-use Rattle.stream_state.specs.Stream.{Stream}
+use Rattle.limits.specs.Limits.{message_limit}
+use Rattle.stream_state.specs.declared.Session.{Session}
+use Rattle.stream_state.specs.Stream.{Stream, stream_of}
+use Rattle.stream_state.specs.Layout.{read, sound}
 
 abbrev pub is_sealing : Kind → Bool
 is_sealing Sealing = true
 is_sealing Checking = false
+
+-- The state is sound, and is read as this stream.
+pub record Holds (state : List ℕ) (x : Session) : Type 0 where
+  pub soundly : sound message_limit state ≡ true
+  pub stream : read state ≡ stream_of x
 
 -- ---- counts
 

@@ -4,8 +4,8 @@ use mathlib.Core.List.{List, [], ◌∷◌, ◌++◌, foldl}
 use Rattle.bits.specs.Bit.{digit}
 use Rattle.generators.specs.Generator.{Generator, plain}
 use Rattle.preoutput.specs.Functions.{grain128}
-use Rattle.refusals.specs.declared.Answer.{Answer}
-use Rattle.refusals.specs.declared.Answer.TheVariants.{Count, Refused}
+use Rattle.refusals.specs.Refusals.{Answer}
+use Rattle.std.specs.Prelude.{Ok, Err}
 use Rattle.machine.specs.declared.edition.Edition.{Edition}
 use Rattle.machine.specs.Machine.{run}
 use Rattle.startup.specs.Editions.{bits_in, initialised}
@@ -75,8 +75,8 @@ accepting (FinishChecking tag) out h = with h h.ad h.text (h.output ++ out) true
 
 -- A refused call adds nothing.
 abbrev pub noting : Answer → Call → (out : List ℕ) → History → History
-noting (Count n) c out h = accepting c out h
-noting (Refused r) c out h = h
+noting (Ok n) c out h = accepting c out h
+noting (Err r) c out h = h
 
 -- A state and its history; what a call makes of them, and what a sequence of calls does.
 pub record Play : Type 0 where

@@ -2,6 +2,7 @@
 #![tactic(auto)]
 
 ghost use Rattle.std.specs.Prelude.{◌≡◌, true, cond, ◌∷◌, [], ◌++◌, ◌+◌, ◌*◌, ◌/◌, ◌≤◌, length, take, drop};
+ghost use Rattle.bits.specs.Bytes.{word};
 ghost use Rattle.preoutput.specs.Words.{generator_of};
 ghost use Rattle.strokes.specs.Streams.{spacing};
 ghost use Rattle.machine.specs.Machine.{run, decipher};
@@ -16,6 +17,15 @@ use preoutput::Registers;
 use startup::editions;
 use strokes::streams;
 use strokes::streams::Taken;
+
+// Four bytes as a word.
+fn word_at(edition: Edition, s: &[u8], at: usize) -> u64
+    requires { at + 4 ≤ length s.now }
+    ensures { word 32 result ≡ bits_in edition (take 4 (drop at s.now)) }
+{
+    let end = at + 4;
+    editions::ordered(edition, bits::number(&s[at..end]))
+}
 
 // Writes the n lowest bytes of a word from place `at` on, or nothing.
 fn put(edition: Edition, out: &mut [u8], at: usize, n: usize, w: u64, writes: bool)
@@ -43,8 +53,8 @@ fn crypt_words(
     let mut now = e;
     for i in 0..s.len() / 4 {
         let at = i * 4;
-        let c = engine::crypt_word(now, editions::word_at::<4>(edition, s, at), sealing);
-        put(edition, out, at, 4, c.word, writes);
+        let c = engine::crypt_word(now, word_at(edition, s, at), sealing);
+        put(edition, out, at, 4, c.text, writes);
         now = c.engine;
     }
     now
@@ -66,7 +76,7 @@ fn crypt_rest(
     let mut now = e;
     for i in from..s.len() {
         let c = engine::crypt_byte(now, editions::ordered_byte(edition, s[i]), sealing);
-        put(edition, out, i, 1, bits::wide(c.byte), writes);
+        put(edition, out, i, 1, bits::wide(c.text), writes);
         now = c.engine;
     }
     now
@@ -77,17 +87,15 @@ fn crypt(e: Engine, s: &[u8], out: &mut [u8], sealing: bool, writes: bool) -> En
     requires { Room writes (length s.now) out.old }
     ensures { CryptsAll e.edition writes sealing (state_of e) s.now out.old out.new result }
 {
-    let edition = e.edition;
-    let words = crypt_words(edition, e, s, out, sealing, writes);
-    crypt_rest(edition, words, s, s.len() / 4 * 4, out, sealing, writes)
+    let words = crypt_words(e.edition, e, s, out, sealing, writes);
+    crypt_rest(e.edition, words, s, s.len() / 4 * 4, out, sealing, writes)
 }
 
 // A byte whose keystream is dropped.
 pub fn absorb_byte(e: Engine, m: u8) -> Engine
     ensures { state_of result ≡ run (state_of e) (bits_in e.edition (m ∷ [])) }
 {
-    let edition = e.edition;
-    engine::absorb_byte(e, editions::ordered_byte(edition, m))
+    engine::absorb_byte(e, editions::ordered_byte(e.edition, m))
 }
 
 // Bytes whose keystream is dropped.
@@ -129,7 +137,7 @@ fn add_words(edition: Edition, taken: Taken, g: Registers, s: &[u8], out: &mut [
             out,
             at,
             4,
-            editions::word_at::<4>(edition, s, at) ^ k.keystream,
+            word_at(edition, s, at) ^ k.keystream,
             true,
         );
         now = k.registers;

@@ -18,10 +18,8 @@ use Rattle.bits.proofs.Spelling.{spelled}
 use Rattle.bits.proofs.Word.{value-word}
 use Rattle.refusals.specs.declared.Refusal.{Refusal}
 use Rattle.refusals.specs.declared.Refusal.TheVariants.{TagDiffers}
-use Rattle.refusals.specs.declared.Check.{Check}
-use Rattle.refusals.specs.declared.Check.TheVariants.{Passed, Failed}
-use Rattle.refusals.specs.declared.Answer.TheVariants.{Count, Refused}
-use Rattle.refusals.specs.Refusals.{after}
+use Rattle.refusals.specs.Refusals.{Check, after, passed}
+use Rattle.std.specs.Prelude.{Ok, Err}
 use Rattle.refusals.specs.Outcome.{Outcome, outcome, success, settled}
 use Rattle.refusals.proofs.LastRow.{settled_failed}
 use Rattle.tagged.specs.Cipher.{Cipher, Sound}
@@ -31,8 +29,8 @@ use Rattle.tagged.proofs.Opening.{Authentic, length-payload, length_authentic, v
 -- The output after sealing: the ciphertext was written, then the tag behind it.
 pub sealed_output_lem : (c : Cipher) → Sound c → (message lent out written : List ℕ) → out ≡ c.ciphertext message ++ drop (length message) lent
     → written ≡ take (length message) out ++ (c.tag message ++ drop c.size (drop (length message) out))
-    → outcome (Count (length message + c.size)) written ≡ success (payload c message) lent
-sealed_output_lem c sound message lent out written first second = ap₂ outcome (ap Count (sym (length-payload c sound message))) (second ∙ both)
+    → outcome (Ok (length message + c.size)) written ≡ success (payload c message) lent
+sealed_output_lem c sound message lent out written first second = ap₂ outcome (ap Ok (sym (length-payload c sound message))) (second ∙ both)
   where
     x : List ℕ
     x = c.ciphertext message
@@ -75,15 +73,15 @@ module _ (size : ℕ) (received : List ℕ) (computed : List Bool) (r n : ℕ) (
 -- An outcome of opening that is settled by some rows and then the tag's.
 module _ (c : Cipher) (input out : List ℕ) (j : Check) (o : Outcome)
     (settles : o ≡ settled (after j TagDiffers (tag_differs c input)) (recovered c input) out) where
-  pub open_failed : {r : Refusal} → j ≡ Failed r → outcome (Refused r) out ≡ o
+  pub open_failed : {r : Refusal} → j ≡ Err r → outcome (Err r) out ≡ o
   open_failed failed = settled_failed _ (recovered c input) out settles (ap (λ (k : Check). after k TagDiffers (tag_differs c input)) failed)
 
-  module _ (passed : j ≡ Passed) where
+  module _ (passed : j ≡ passed) where
     pub open_passed : Sound c → Authentic c input → {written : List ℕ} → written ≡ recovered c input ++ drop (length (recovered c input)) out
-        → outcome (Count (length input - c.size)) written ≡ o
+        → outcome (Ok (length input - c.size)) written ≡ o
     open_passed sound authentic added =
-        ap₂ outcome (ap Count (omega (arith, length_authentic c sound input authentic))) added
+        ap₂ outcome (ap Ok (omega (arith, length_authentic c sound input authentic))) added
         ∙ sym ((verdict c input out j o settles passed (λ a. a, λ a. a) refl).returns authentic)
 
-    pub open_differs : ¬ Authentic c input → outcome (Refused TagDiffers) out ≡ o
+    pub open_differs : ¬ Authentic c input → outcome (Err TagDiffers) out ≡ o
     open_differs differs = sym ((verdict c input out j o settles passed (λ a. a, λ a. a) refl).refuses differs)

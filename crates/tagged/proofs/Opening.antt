@@ -10,9 +10,7 @@ use lib.ListN.{length, length-append}
 use Rattle.bits.specs.Bytes.{Bytes, same}
 use Rattle.bits.proofs.Packing.{same_equal, equal_same}
 use Rattle.refusals.specs.declared.Refusal.TheVariants.{TagDiffers}
-use Rattle.refusals.specs.declared.Check.{Check}
-use Rattle.refusals.specs.declared.Check.TheVariants.{Passed}
-use Rattle.refusals.specs.Refusals.{after}
+use Rattle.refusals.specs.Refusals.{Check, after, passed}
 use Rattle.refusals.specs.Outcome.{Outcome, settled, refused, success}
 use Rattle.refusals.specs.Demand1.{Accepts}
 use Rattle.refusals.proofs.LastRow.{after_passed, settled_passed, settled-last}
@@ -66,18 +64,18 @@ module _ (c : Cipher) (sound : Sound c) where
 module _ (c : Cipher) (input out : List ℕ) (j : Check) (o : Outcome)
     (settles : o ≡ settled (after j TagDiffers (tag_differs c input)) (recovered c input) out) where
   -- Where the rows before it have passed, only the tag's is left.
-  pub opening-tag : j ≡ Passed → o ≡ cond (tag_differs c input) (refused TagDiffers out) (success (recovered c input) out)
+  pub opening-tag : j ≡ passed → o ≡ cond (tag_differs c input) (refused TagDiffers out) (success (recovered c input) out)
   opening-tag passed =
       settles ∙ ap (λ (k : Check). settled (after k TagDiffers (tag_differs c input)) (recovered c input) out) passed
       ∙ settled-last TagDiffers (tag_differs c input) (recovered c input) out
 
-  pub opening_passed : Accepts o → (j ≡ Passed) × Authentic c input
+  pub opening_passed : Accepts o → (j ≡ passed) × Authentic c input
   opening_passed a =
       let p = after_passed j TagDiffers (tag_differs c input) (settled_passed _ (recovered c input) out (subst Accepts settles a)) in
       (p.0, tag_authentic c input p.1)
 
   -- Opening goes by whatever holds exactly when the tag is the recomputed one.
-  module _ (passed : j ≡ Passed) {agrees : Type 0} (same : Authentic c input ↔ agrees) {message : List ℕ} (hidden : recovered c input ≡ message) where
+  module _ (passed : j ≡ passed) {agrees : Type 0} (same : Authentic c input ↔ agrees) {message : List ℕ} (hidden : recovered c input ≡ message) where
     by_tag : (differs : Bool) → tag_differs c input ≡ differs → o ≡ cond differs (refused TagDiffers out) (success message out)
     by_tag differs h = opening-tag passed ∙ ap₂ (λ (b : Bool) (w : List ℕ). cond b (refused TagDiffers out) (success w out)) h hidden
 
@@ -97,8 +95,8 @@ module _ (c : Cipher) (input out : List ℕ) (j : Check) (o : Outcome)
 
   -- Where the rows pass exactly with what is legal and room for the message, opening accepts exactly what some message makes.
   module _ (sound : Sound c) (is_bytes : Bytes input) (legal : List ℕ → Type 0)
-      (passes : (m : List ℕ) → legal m → length input ≡ length m + c.size → length m ≤ length out → j ≡ Passed)
-      (fits : j ≡ Passed → (m : List ℕ) → length input ≡ length m + c.size → legal m × (length m ≤ length out)) where
+      (passes : (m : List ℕ) → legal m → length input ≡ length m + c.size → length m ≤ length out → j ≡ passed)
+      (fits : j ≡ passed → (m : List ℕ) → length input ≡ length m + c.size → legal m × (length m ≤ length out)) where
     makes-opened : (m : List ℕ) → Makes legal (payload c) m input → length m ≤ length out → o ≡ success m out
     makes-opened m makes room =
         (verdict (passes m makes.legal (ap length (sym makes.made) ∙ length-payload c sound m) room) (λ a. a, λ a. a)

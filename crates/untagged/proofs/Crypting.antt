@@ -6,9 +6,8 @@ use Prim.Native.Nat.{ℕ, ◌≤◌}
 use lib.ListN.{length, take, drop}
 use lib.Seq.{take_at}
 use Rattle.bits.specs.Bytes.{Bytes}
-use Rattle.refusals.specs.declared.Check.{Check}
-use Rattle.refusals.specs.declared.Check.TheVariants.{Passed}
-use Rattle.refusals.specs.declared.Answer.TheVariants.{Count}
+use Rattle.refusals.specs.Refusals.{Check, passed}
+use Rattle.std.specs.Prelude.{Ok}
 use Rattle.refusals.specs.Outcome.{Outcome, outcome, settled, success}
 use Rattle.refusals.specs.Demand1.{Accepts}
 use Rattle.refusals.proofs.LastRow.{settled_passed, settled-success}
@@ -17,8 +16,8 @@ use Rattle.untagged.specs.Crypting.{Crypting, Twice}
 module _ (legal : List ℕ → Type 0) (with_keystream : List ℕ → List ℕ) where
   -- Where the rows pass exactly with what is legal and room for the message.
   module _ (message out : List ℕ) (j : Check) (o : Outcome) (settles : o ≡ settled j (with_keystream message) out)
-      (passes : legal message → length message ≤ length out → j ≡ Passed)
-      (fits : j ≡ Passed → legal message × (length message ≤ length out)) where
+      (passes : legal message → length message ≤ length out → j ≡ passed)
+      (fits : j ≡ passed → legal message × (length message ≤ length out)) where
     crypts : legal message → length message ≤ length out → o ≡ success (with_keystream message) out
     crypts l room = sym (settled-success j (with_keystream message) out settles (passes l room))
 
@@ -47,7 +46,7 @@ module _ (legal : List ℕ → Type 0) (with_keystream : List ℕ → List ℕ) 
 -- What a passed call answers and leaves, where as much of the message was written as there is room for.
 module _ (with_keystream : List ℕ → List ℕ) (length-added : (s : List ℕ) → length (with_keystream s) ≡ length s) (message lent : List ℕ) (j : Check) (o : Outcome)
     (settles : o ≡ settled j (with_keystream message) lent) where
-  pub crypted-output : {out : List ℕ} → j ≡ Passed → out ≡ with_keystream message ++ drop (length message) lent → outcome (Count (length message)) out ≡ o
+  pub crypted-output : {out : List ℕ} → j ≡ passed → out ≡ with_keystream message ++ drop (length message) lent → outcome (Ok (length message)) out ≡ o
   crypted-output e written =
-      ap₂ outcome (ap Count (sym (length-added message))) (written ∙ ap (λ (n : ℕ). with_keystream message ++ drop n lent) (sym (length-added message)))
+      ap₂ outcome (ap Ok (sym (length-added message))) (written ∙ ap (λ (n : ℕ). with_keystream message ++ drop n lent) (sym (length-added message)))
       ∙ settled-success j (with_keystream message) lent settles e

@@ -20,7 +20,7 @@ fn keystream_is(begun: Engine, expected: &[u8; 16]) -> bool {
     let mut now = begun;
     for byte in expected {
         let c = engine::crypt_byte(now, 0, true);
-        if c.byte != *byte {
+        if c.text != *byte {
             return false;
         }
         now = c.engine;

@@ -1,9 +1,10 @@
 -- `grain128a::crypt` meets its contract.
-use mathlib.Core.Path.{◌≡◌, sym, subst}
+use mathlib.Core.Path.{◌≡◌, sym, ap, ◌∙◌, subst}
 use mathlib.Core.List.{List}
 use Prim.Native.Nat.{ℕ}
-use Rattle.refusals.specs.Refusals.{among}
-use Rattle.refusals.specs.Outcome.{Outcome}
+use Rattle.refusals.specs.Refusals.{Answer, among}
+use Rattle.refusals.specs.Outcome.{Outcome, outcome}
+use Rattle.refusals.proofs.Returned.{handed_on}
 use Rattle.limits.specs.Limits.{message_limit}
 use Rattle.checks.specs.Demand1.{Demand1}
 use Rattle.mode_checks.specs.Order.{unauthenticated}
@@ -33,20 +34,27 @@ checked : (j : After-judge_unauthenticated) →
 unfolding message_limit
 checked j = record { checked = j.judge_unauthenticated.ensures }
 
-pub warm-warmed-requires : goal.warm-warmed-requires
-warm-warmed-requires c =
-    let h = (crypt-legal (checked (goal.at.warm-warmed-requires c).After-judge_unauthenticated) c.in-Passed.is).0.common in
-    (h.key_sized, h.nonce_sized)
+pub unwrap-requires : goal.unwrap-requires
+unwrap-requires c =
+    let h = (crypt-legal (checked (goal.at.unwrap-requires c).After-judge_unauthenticated) c.in_ok-judge_unauthenticated.was).0.common in
+    c.try_into.ensures.0 h.key_sized
 
-pub returns-in-Failed : goal.returns-in-Failed
-returns-in-Failed c =
+pub unwrap-requires-2 : goal.unwrap-requires-2
+unwrap-requires-2 c =
+    let h = (crypt-legal (checked (goal.at.unwrap-requires-2 c).After-judge_unauthenticated) c.in_ok-judge_unauthenticated.was).0.common in
+    c.try_into-2.ensures.0 h.nonce_sized
+
+pub returns-in_err-judge_unauthenticated : goal.returns-in_err-judge_unauthenticated
+returns-in_err-judge_unauthenticated c =
     let a = c.args in
-    let k = called a.key.now a.nonce.now a.message.now a.out.now (crypt_failed (checked (goal.at.returns-in-Failed c).After-judge_unauthenticated) c.in-Failed.is) in
+    let k = called a.key.now a.nonce.now a.message.now a.out.now (ap (λ (r : Answer). outcome r a.out.now) (handed_on c.from_residual.result _ c.from_residual.ensures.1) ∙ crypt_failed (checked (goal.at.returns-in_err-judge_unauthenticated c).After-judge_unauthenticated) c.in_err-judge_unauthenticated.was) in
     record { crypted = k.0; demand1 = k.1.0; crypting = k.1.1 }
 
-pub returns-in-Passed : goal.returns-in-Passed
-returns-in-Passed c =
+pub returns : goal.returns
+returns c =
     let a = c.args in
+    let key_same = (rw c.unwrap.ensures at c.try_into.ensures.1).same in
+    let nonce_same = (rw c.unwrap-2.ensures at c.try_into-2.ensures.1).same in
     let k = called a.key.now a.nonce.now a.message.now a.out.now
-    (crypt_passed (checked (goal.at.returns-in-Passed c).After-judge_unauthenticated) c.in-Passed.is c.warm-warmed.ensures c.add_keystream.ensures) in
+    (crypt_passed (checked (goal.at.returns c).After-judge_unauthenticated) c.in_ok-judge_unauthenticated.was (rw (key_same, nonce_same) at c.warm-warmed.ensures) c.add_keystream.ensures) in
     record { crypted = k.0; demand1 = k.1.0; crypting = k.1.1 }

@@ -6,9 +6,9 @@ use native.Mathlib.Omega.{arith}
 use lib.Dec.{ltb}
 use lib.ListN.{length}
 use Rattle.bits.specs.Bytes.{Bytes}
-use Rattle.refusals.specs.declared.Check.{Check}
-use Rattle.refusals.specs.Refusals.{among}
-use Rattle.refusals.specs.Outcome.{Outcome}
+use Rattle.refusals.specs.Refusals.{Answer, Check, among}
+use Rattle.refusals.specs.Outcome.{Outcome, outcome}
+use Rattle.refusals.proofs.Returned.{handed_on}
 use Rattle.limits.specs.Limits.{message_limit}
 use Rattle.checks.specs.Demand1.{Demand1}
 use Rattle.mode_checks.specs.Order.{authenticated}
@@ -65,45 +65,52 @@ compared : (n : After-number) →
     Compared a.tag_bits a.key.now a.nonce.now a.input.now n.begin-begun.result n.decipher_all-done.result n.finish.result n.number.result
 compared n =
     let size = n.size-size.ensures in
+    let key_same = (rw n.unwrap.ensures at n.try_into.ensures.1).same in
+    let nonce_same = (rw n.unwrap-2.ensures at n.try_into-2.ensures.1).same in
     record {
       is_bytes = λ i. omega (arith, n.type_inv.input i);
-      began = record { cuts = n.begin-begun.ensures };
+      began = record { cuts = rw (key_same, nonce_same) at n.begin-begun.ensures };
       ran = rw size at (rw n.ciphertext_part-ciphertext.ensures at n.decipher_all-done.ensures);
       tagged = n.finish.ensures;
       spelled = rw size at (rw n.tag_part.ensures at n.number.ensures);
     }
 
-pub begin-begun-requires : goal.begin-begun-requires
-begin-begun-requires c =
-    let h = (open_clear (checked (goal.at.begin-begun-requires c).After-judge_authenticated) c.in-Passed.is).common in
-    (h.key_sized, h.nonce_sized)
+pub unwrap-requires : goal.unwrap-requires
+unwrap-requires c =
+    let h = (open_clear (checked (goal.at.unwrap-requires c).After-judge_authenticated) c.in_ok-judge_authenticated.was).common in
+    c.try_into.ensures.0 h.key_sized
+
+pub unwrap-requires-2 : goal.unwrap-requires-2
+unwrap-requires-2 c =
+    let h = (open_clear (checked (goal.at.unwrap-requires-2 c).After-judge_authenticated) c.in_ok-judge_authenticated.was).common in
+    c.try_into-2.ensures.0 h.nonce_sized
 
 pub finish-requires : goal.finish-requires
 finish-requires c =
-    (open_clear (checked (goal.at.finish-requires c).After-judge_authenticated) c.in-Passed.is).tag_fits
+    (open_clear (checked (goal.at.finish-requires c).After-judge_authenticated) c.in_ok-judge_authenticated.was).tag_fits
 
-pub overflow_sub-count : goal.overflow_sub-count
-overflow_sub-count c =
-    omega (arith, open_reaches (checked (goal.at.overflow_sub-count c).After-judge_authenticated) c.in-Passed.is, c.size-size.ensures)
+pub overflow_sub-result : goal.overflow_sub-result
+overflow_sub-result c =
+    omega (arith, open_reaches (checked (goal.at.overflow_sub-result c).After-judge_authenticated) c.in_ok-judge_authenticated.was, c.size-size.ensures)
 
-pub returns-in-Failed : goal.returns-in-Failed
-returns-in-Failed c =
+pub returns-in_err-judge_authenticated : goal.returns-in_err-judge_authenticated
+returns-in_err-judge_authenticated c =
     let a = c.args in
-    let k = called a.tag_bits a.key.now a.nonce.now a.input.now a.out.now (is-bytes (goal.at.returns-in-Failed c).After-judge_authenticated) (open_failed (checked (goal.at.returns-in-Failed c).After-judge_authenticated) c.in-Failed.is) in
+    let k = called a.tag_bits a.key.now a.nonce.now a.input.now a.out.now (is-bytes (goal.at.returns-in_err-judge_authenticated c).After-judge_authenticated) (ap (λ (r : Answer). outcome r a.out.now) (handed_on c.from_residual.result _ c.from_residual.ensures.1) ∙ open_failed (checked (goal.at.returns-in_err-judge_authenticated c).After-judge_authenticated) c.in_err-judge_authenticated.was) in
+    record { opened = k.0; demand1 = k.1.0; demand2 = k.1.1.0; demand3 = k.1.1.1.0; past = k.1.1.1.1 }
+
+pub returns : goal.returns
+returns c =
+    let a = c.args in
+    let size = c.size-size.ensures in
+    let k = called a.tag_bits a.key.now a.nonce.now a.input.now a.out.now (is-bytes (goal.at.returns c).After-judge_authenticated)
+    (rw size
+    (open_passed (checked (goal.at.returns c).After-judge_authenticated) c.in_ok-judge_authenticated.was (compared (goal.at.returns c).After-number) c.if-finish-number.false
+    (rw size at (rw c.ciphertext_part-ciphertext.ensures at c.add_keystream.ensures)))) in
     record { opened = k.0; demand1 = k.1.0; demand2 = k.1.1.0; demand3 = k.1.1.1.0; past = k.1.1.1.1 }
 
 pub returns-then-finish-number : goal.returns-then-finish-number
 returns-then-finish-number c =
     let a = c.args in
-    let size = c.size-size.ensures in
-    let k = called a.tag_bits a.key.now a.nonce.now a.input.now a.out.now (is-bytes (goal.at.returns-then-finish-number c).After-judge_authenticated)
-    (rw size
-    (open_passed (checked (goal.at.returns-then-finish-number c).After-judge_authenticated) c.in-Passed.is (compared (goal.at.returns-then-finish-number c).After-number) c.if-finish-number.true
-    (rw size at (rw c.ciphertext_part-ciphertext.ensures at c.add_keystream.ensures)))) in
-    record { opened = k.0; demand1 = k.1.0; demand2 = k.1.1.0; demand3 = k.1.1.1.0; past = k.1.1.1.1 }
-
-pub returns-else-finish-number : goal.returns-else-finish-number
-returns-else-finish-number c =
-    let a = c.args in
-    let k = called a.tag_bits a.key.now a.nonce.now a.input.now a.out.now (is-bytes (goal.at.returns-else-finish-number c).After-judge_authenticated) (open_differs (checked (goal.at.returns-else-finish-number c).After-judge_authenticated) c.in-Passed.is (compared (goal.at.returns-else-finish-number c).After-number) c.if-finish-number.false) in
+    let k = called a.tag_bits a.key.now a.nonce.now a.input.now a.out.now (is-bytes (goal.at.returns-then-finish-number c).After-judge_authenticated) (open_differs (checked (goal.at.returns-then-finish-number c).After-judge_authenticated) c.in_ok-judge_authenticated.was (compared (goal.at.returns-then-finish-number c).After-number) c.if-finish-number.true) in
     record { opened = k.0; demand1 = k.1.0; demand2 = k.1.1.0; demand3 = k.1.1.1.0; past = k.1.1.1.1 }

@@ -1,13 +1,13 @@
 -- `grain128a::seal` meets its contract.
-use mathlib.Core.Path.{◌≡◌, sym, subst}
+use mathlib.Core.Path.{◌≡◌, sym, ap, ◌∙◌, subst}
 use mathlib.Core.List.{List}
 use Prim.Native.Nat.{ℕ, ◌+◌, ◌≤◌}
 use native.Mathlib.Omega.{arith}
 use lib.ListN.{length}
 use Rattle.bits.proofs.Written.{word-written}
-use Rattle.refusals.specs.declared.Check.TheVariants.{Passed}
-use Rattle.refusals.specs.Refusals.{among}
-use Rattle.refusals.specs.Outcome.{Outcome}
+use Rattle.refusals.specs.Refusals.{Answer, among, passed}
+use Rattle.refusals.specs.Outcome.{Outcome, outcome}
+use Rattle.refusals.proofs.Returned.{handed_on}
 use Rattle.limits.specs.Limits.{message_limit}
 use Rattle.checks.specs.Demand1.{Demand1}
 use Rattle.mode_checks.specs.Order.{authenticated}
@@ -37,40 +37,47 @@ checked : (j : After-judge_authenticated) →
 unfolding message_limit
 checked j = record { checked = rw j.size-size.ensures at j.judge_authenticated.ensures }
 
-pub begin-begun-requires : goal.begin-begun-requires
-begin-begun-requires c =
-    let h = (seal_legal (checked (goal.at.begin-begun-requires c).After-judge_authenticated) c.in-Passed.is).0.common in
-    (h.key_sized, h.nonce_sized)
+pub unwrap-requires : goal.unwrap-requires
+unwrap-requires c =
+    let h = (seal_legal (checked (goal.at.unwrap-requires c).After-judge_authenticated) c.in_ok-judge_authenticated.was).0.common in
+    c.try_into.ensures.0 h.key_sized
+
+pub unwrap-requires-2 : goal.unwrap-requires-2
+unwrap-requires-2 c =
+    let h = (seal_legal (checked (goal.at.unwrap-requires-2 c).After-judge_authenticated) c.in_ok-judge_authenticated.was).0.common in
+    c.try_into-2.ensures.0 h.nonce_sized
 
 -- All is legal, and there is room for the payload.
-legal : (j : After-judge_authenticated) → j.judge_authenticated.result ≡ Passed →
+legal : (j : After-judge_authenticated) → j.judge_authenticated.result ≡ passed →
     let a = j.args in
     Legal a.tag_bits a.key.now a.nonce.now a.message.now × (length a.message.now + tag_size a.tag_bits ≤ length a.out.now)
 legal j h = seal_legal (checked j) h
 
 pub overflow_add-end : goal.overflow_add-end
 overflow_add-end c =
-    omega (arith, (legal (goal.at.overflow_add-end c).After-judge_authenticated c.in-Passed.is).1, c.size-size.ensures, c.well_formed)
+    omega (arith, (legal (goal.at.overflow_add-end c).After-judge_authenticated c.in_ok-judge_authenticated.was).1, c.size-size.ensures, c.well_formed)
 
 pub finish-requires : goal.finish-requires
-finish-requires c = (legal (goal.at.finish-requires c).After-judge_authenticated c.in-Passed.is).0.tag_fits
+finish-requires c = (legal (goal.at.finish-requires c).After-judge_authenticated c.in_ok-judge_authenticated.was).0.tag_fits
 
 pub slice_bounds-spell-end : goal.slice_bounds-spell-end
 slice_bounds-spell-end c =
-    omega (arith, c.encipher_all-done.auto, (legal (goal.at.slice_bounds-spell-end c).After-judge_authenticated c.in-Passed.is).1, c.size-size.ensures)
+    omega (arith, c.encipher_all-done.auto, (legal (goal.at.slice_bounds-spell-end c).After-judge_authenticated c.in_ok-judge_authenticated.was).1, c.size-size.ensures)
 
-pub returns-in-Failed : goal.returns-in-Failed
-returns-in-Failed c =
+pub returns-in_err-judge_authenticated : goal.returns-in_err-judge_authenticated
+returns-in_err-judge_authenticated c =
     let a = c.args in
-    let k = called a.tag_bits a.key.now a.nonce.now a.message.now a.out.now (seal_failed (checked (goal.at.returns-in-Failed c).After-judge_authenticated) c.in-Failed.is) in
+    let k = called a.tag_bits a.key.now a.nonce.now a.message.now a.out.now (ap (λ (r : Answer). outcome r a.out.now) (handed_on c.from_residual.result _ c.from_residual.ensures.1) ∙ seal_failed (checked (goal.at.returns-in_err-judge_authenticated c).After-judge_authenticated) c.in_err-judge_authenticated.was) in
     record { sealed = k.0; demand1 = k.1.0; demand2 = k.1.1 }
 
-pub returns-in-Passed : goal.returns-in-Passed
-returns-in-Passed c =
+pub returns : goal.returns
+returns c =
     let a = c.args in
+    let key_same = (rw c.unwrap.ensures at c.try_into.ensures.1).same in
+    let nonce_same = (rw c.unwrap-2.ensures at c.try_into-2.ensures.1).same in
     let size = c.size-size.ensures in
     let k = called a.tag_bits a.key.now a.nonce.now a.message.now a.out.now
     (rw size
-    (seal_passed (checked (goal.at.returns-in-Passed c).After-judge_authenticated) c.in-Passed.is (record { cuts = c.begin-begun.ensures }) c.encipher_all-done.ensures c.finish.ensures
-    (rw size at (word-written _ (length a.message.now) c.size-size.result c.finish.result (omega (arith, c.encipher_all-done.auto, (legal (goal.at.returns-in-Passed c).After-judge_authenticated c.in-Passed.is).1, size)) c.spell.ensures)))) in
+    (seal_passed (checked (goal.at.returns c).After-judge_authenticated) c.in_ok-judge_authenticated.was (record { cuts = rw (key_same, nonce_same) at c.begin-begun.ensures }) c.encipher_all-done.ensures c.finish.ensures
+    (rw size at (word-written _ (length a.message.now) c.size-size.result c.finish.result (omega (arith, c.encipher_all-done.auto, (legal (goal.at.returns c).After-judge_authenticated c.in_ok-judge_authenticated.was).1, size)) c.spell.ensures)))) in
     record { sealed = k.0; demand1 = k.1.0; demand2 = k.1.1 }

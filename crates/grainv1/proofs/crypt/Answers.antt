@@ -1,29 +1,40 @@
 -- `grainv1::crypt` meets its contract.
-use mathlib.Core.Path.{sym, ◌∙◌}
+use mathlib.Core.Path.{sym, ap, ◌∙◌}
+use Rattle.refusals.specs.Refusals.{Answer}
+use Rattle.refusals.specs.Outcome.{outcome}
+use Rattle.refusals.proofs.Returned.{handed_on}
 use Rattle.grainv1.proofs.Calls.{passed_legal, called, crypt_failed, crypt_passed}
 use Rattle.grainv1.proofs.crypt.Goals as goal
 
-pub begin-requires : goal.begin-requires
-begin-requires c =
+pub unwrap-requires : goal.unwrap-requires
+unwrap-requires c =
     let a = c.args in
-    let h = (passed_legal a.key.now a.nonce.now a.message.now a.out.now (sym c.judge.ensures ∙ c.in-Passed.is)).0 in
-    (h.key_sized, h.nonce_sized)
+    let h = (passed_legal a.key.now a.nonce.now a.message.now a.out.now (sym c.judge.ensures ∙ c.in_ok-judge.was)).0 in
+    c.try_into.ensures.0 h.key_sized
+
+pub unwrap-requires-2 : goal.unwrap-requires-2
+unwrap-requires-2 c =
+    let a = c.args in
+    let h = (passed_legal a.key.now a.nonce.now a.message.now a.out.now (sym c.judge.ensures ∙ c.in_ok-judge.was)).0 in
+    c.try_into-2.ensures.0 h.nonce_sized
 
 pub add-requires : goal.add-requires
 add-requires c =
     let a = c.args in
-    (passed_legal a.key.now a.nonce.now a.message.now a.out.now (sym c.judge.ensures ∙ c.in-Passed.is)).1
+    (passed_legal a.key.now a.nonce.now a.message.now a.out.now (sym c.judge.ensures ∙ c.in_ok-judge.was)).1
 
-pub returns-in-Failed : goal.returns-in-Failed
-returns-in-Failed c =
+pub returns-in_err-judge : goal.returns-in_err-judge
+returns-in_err-judge c =
     let a = c.args in
-    let left = crypt_failed a.key.now a.nonce.now a.message.now a.out.now (sym c.judge.ensures ∙ c.in-Failed.is) in
+    let left = ap (λ (r : Answer). outcome r a.out.now) (handed_on c.from_residual.result _ c.from_residual.ensures.1) ∙ crypt_failed a.key.now a.nonce.now a.message.now a.out.now (sym c.judge.ensures ∙ c.in_err-judge.was) in
     let told = called a.key.now a.nonce.now a.message.now a.out.now left in
     record { crypted = told.0; demand1 = told.1.0; crypting = told.1.1 }
 
-pub returns-in-Passed : goal.returns-in-Passed
-returns-in-Passed c =
+pub returns : goal.returns
+returns c =
     let a = c.args in
-    let left = crypt_passed a.key.now a.nonce.now a.message.now a.out.now (sym c.judge.ensures ∙ c.in-Passed.is) c.begin.ensures c.add.ensures in
+    let key_same = (rw c.unwrap.ensures at c.try_into.ensures.1).same in
+    let nonce_same = (rw c.unwrap-2.ensures at c.try_into-2.ensures.1).same in
+    let left = crypt_passed a.key.now a.nonce.now a.message.now a.out.now (sym c.judge.ensures ∙ c.in_ok-judge.was) (rw (key_same, nonce_same) at c.begin-begun.ensures) c.add.ensures in
     let told = called a.key.now a.nonce.now a.message.now a.out.now left in
     record { crypted = told.0; demand1 = told.1.0; crypting = told.1.1 }

@@ -5,7 +5,7 @@ use lib.IntN.{ℤ}
 use lib.Ieee.{Float, binary64, in_float}
 use mir.Syntax.{w64}
 use mir.ValLaws.{to_z-of_z}
-use Rattle.signals.specs.declared.Decoded.TheVariants.{Value}
+use Rattle.std.specs.Prelude.{Ok}
 use Rattle.signals.specs.Values.{value_of, verdict}
 use Rattle.signals.proofs.Complement.{raw_in_float}
 use Rattle.signals.proofs.Decoding.{is_misplaced, is_unusable, is_value}
@@ -32,7 +32,7 @@ value-requires c =
 pub returns : goal.returns
 returns c =
     let a = c.args in
-    ap Value (c.verdict.ensures ∙ ap (λ (x : Float). verdict x a.s) c.value.ensures
+    ap Ok (c.verdict.ensures ∙ ap (λ (x : Float). verdict x a.s) c.value.ensures
     ∙ ap (λ (n : ℤ). verdict (value_of n a.s) a.s) (to_z-of_z w64 c.raw-n.result (record { sfits = c.raw-n.type_inv }) ∙ c.raw-n.ensures))
     ∙ sym
     (is_value a.message.now a.start a.width a.signed a.s (sym c.misplaced.ensures ∙ c.if-misplaced.false)

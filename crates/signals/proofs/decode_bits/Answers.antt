@@ -10,4 +10,4 @@ pub float_to_bits-value_bits : goal.float_to_bits-value_bits
 float_to_bits-value_bits c =
     let a = c.args in
     subst (λ (x : Float). T (not (is_nan x))) (sym c.carried.ensures)
-    (subst NoNan (sym c.decode.ensures ∙ c.in-Value.is) (no_nan a.message.now a.start a.width a.signed a.s))
+    (subst NoNan (sym c.decode.ensures ∙ c.in_ok-v.was) (no_nan a.message.now a.start a.width a.signed a.s))

@@ -10,5 +10,4 @@ pub returns : goal.returns
 unfolding before_tag rows among
 returns c =
     let a = c.args in
-    rw (c.after.ensures, c.after-c-3.ensures, c.after-c-2.ensures, c.after-c.ensures)
-    (check-in_order (among (rows false a.out_of_turn a.too_long a.wrong_size a.no_room false)) before_tag)
+    cc (check-in_order (among (rows false a.out_of_turn a.too_long a.wrong_size a.no_room false)) before_tag)

@@ -9,5 +9,4 @@ pub returns : goal.returns
 unfolding beginning begin_rows among
 returns c =
     let a = c.args in
-    rw (c.after.ensures, c.after-c-5.ensures, c.after-c-4.ensures, c.after-c-3.ensures, c.after-c-2.ensures, c.after-c.ensures, c.is_blank-blank.ensures)
-    (check-in_order (among (begin_rows a.unknown a.key.now a.nonce.now a.announced a.limit a.size)) beginning)
+    cc (check-in_order (among (begin_rows a.unknown a.key.now a.nonce.now a.announced a.limit a.size)) beginning)

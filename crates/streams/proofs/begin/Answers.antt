@@ -1,54 +1,45 @@
 -- `streams::begin` meets its contract.
-use mathlib.Core.Path.{◌≡◌, refl, sym, ◌∙◌}
-use Prim.Native.Nat.{ℕ, ◌≤◌, ◌<◌}
-use native.Mathlib.Omega.{arith}
-use lib.ListN.{length}
+use mathlib.Core.Path.{sym, ◌∙◌}
 use Rattle.grain128aead.specs.Sizes.{ad_limit}
-use Rattle.streams.proofs.Demand1.{answered}
+use native.Mathlib.Omega.{arith}
 use Rattle.streams.proofs.Engines.{starts}
-use Rattle.streams.proofs.Settled.{put_step, Begins, begin_judgement, begins, begin_failed, begin_passed}
-use Rattle.refusals.specs.declared.Check.TheVariants.{Passed}
-use Rattle.streams.proofs.begin.Goals.{After-judge_begin}
+use Rattle.streams.proofs.Answered.{not_begun, began}
+use Rattle.streams.proofs.Settled.{begins}
 use Rattle.streams.proofs.begin.Goals as goal
 
--- What the rows come to.
-judged : (j : After-judge_begin) →
-    let a = j.args in
-    j.judge_begin.result ≡ begin_judgement a.kind a.edition a.key.now a.nonce.now a.announced a.state.now
+pub returns-in_err-judge_begin : goal.returns-in_err-judge_begin
 unfolding ad_limit
-judged j = rw j.known-unknown.ensures at j.judge_begin.ensures
+returns-in_err-judge_begin c =
+    let judged = rw c.known-unknown.ensures at c.judge_begin.ensures in
+    let k = not_begun {kind = c.args.kind} judged c.from_residual.result c.from_residual.ensures.1 c.in_err-judge_begin.was in
+    record { called = k.called; demand1 = k.demand1; fits = k.fits }
 
-started : (j : After-judge_begin) → j.judge_begin.result ≡ Passed →
-    let a = j.args in
-    Begins a.edition a.key.now a.nonce.now a.announced (length a.state.now)
-started j h =
-    let a = j.args in
-    begins a.kind a.edition a.key.now a.nonce.now a.announced a.state.now (sym (judged j) ∙ h)
-
-fits-two-bytes : {n : ℕ} → n ≤ ad_limit → n < 65536
+pub unwrap-requires : goal.unwrap-requires
 unfolding ad_limit
-fits-two-bytes h = omega arith
+unwrap-requires c =
+    let judged = rw c.known-unknown.ensures at c.judge_begin.ensures in
+    let b = begins c.args.kind c.args.edition c.args.key.now c.args.nonce.now c.args.announced c.args.state.now (sym judged ∙ c.in_ok-judge_begin.was) in
+    c.try_into.ensures.0 b.key_sized
 
-pub start-engine-requires : goal.start-engine-requires
-start-engine-requires c =
-    let b = started (goal.at.start-engine-requires c).After-judge_begin c.in-Passed.is in
-    (b.key_sized, b.nonce_sized)
+pub unwrap-requires-2 : goal.unwrap-requires-2
+unfolding ad_limit
+unwrap-requires-2 c =
+    let judged = rw c.known-unknown.ensures at c.judge_begin.ensures in
+    let b = begins c.args.kind c.args.edition c.args.key.now c.args.nonce.now c.args.announced c.args.state.now (sym judged ∙ c.in_ok-judge_begin.was) in
+    c.try_into-2.ensures.0 b.nonce_sized
 
 pub overflow_cast-counts : goal.overflow_cast-counts
-overflow_cast-counts c = record { fits = fits-two-bytes (started (goal.at.overflow_cast-counts c).After-judge_begin c.in-Passed.is).ad_fits }
+unfolding ad_limit
+overflow_cast-counts c =
+    let judged = rw c.known-unknown.ensures at c.judge_begin.ensures in
+    omega (arith, (begins c.args.kind c.args.edition c.args.key.now c.args.nonce.now c.args.announced c.args.state.now (sym judged ∙ c.in_ok-judge_begin.was)).ad_fits)
 
-pub returns-in-Failed : goal.returns-in-Failed
-returns-in-Failed c =
+pub returns : goal.returns
+unfolding ad_limit
+returns c =
     let a = c.args in
-    let k = answered _ _ (begin_failed a.kind a.edition a.key.now a.nonce.now a.announced a.state.now (sym (judged (goal.at.returns-in-Failed c).After-judge_begin) ∙ c.in-Failed.is)) refl in
-    record { called = k.0; demand1 = k.1.0; fits = k.1.1 }
-
-pub returns-in-Passed : goal.returns-in-Passed
-returns-in-Passed c =
-    let a = c.args in
-    let k = answered _ _
-    (put_step _ a.state.now (started (goal.at.returns-in-Passed c).After-judge_begin c.in-Passed.is).sized
-    (starts a.kind a.key.now a.nonce.now a.announced c.start-engine.result c.named.ensures c.start-engine.ensures c.number.ensures) c.put.ensures.counted c.put.ensures.stored refl
-    ∙ begin_passed a.kind a.edition a.key.now a.nonce.now a.announced a.state.now (sym (judged (goal.at.returns-in-Passed c).After-judge_begin) ∙ c.in-Passed.is))
-    c.put.ensures.fits in
-    record { called = k.0; demand1 = k.1.0; fits = k.1.1 }
+    let judged = rw c.known-unknown.ensures at c.judge_begin.ensures in
+    let key_same = (rw c.unwrap.ensures at c.try_into.ensures.1).same in
+    let nonce_same = (rw c.unwrap-2.ensures at c.try_into-2.ensures.1).same in
+    let k = began {kind = a.kind} judged c.in_ok-judge_begin.was _ (starts a.kind a.key.now a.nonce.now a.announced c.start-engine.result c.named.ensures (rw (key_same, nonce_same) at c.start-engine.ensures) c.number.ensures) c.put.ensures.counted c.put.ensures.stored c.put.ensures.fits in
+    record { called = k.called; demand1 = k.demand1; fits = k.fits }

@@ -1,59 +1,43 @@
 -- `streams::finish_sealing` meets its contract.
-use mathlib.Core.Path.{◌≡◌, refl, sym, ap, ◌∙◌}
-use Prim.Native.Nat.{◌≤◌}
-use borrow.Author.Tests.{ltb-false}
+use mathlib.Core.Path.{refl, sym, ◌∙◌}
 use lib.ListN.{length}
+use Rattle.limits.specs.Limits.{message_limit}
+use borrow.Author.Tests.{ltb-false}
 use lib.Seq.{length-take-le}
 use Rattle.payload.specs.Sizes.{tag_size}
-use Rattle.limits.specs.Limits.{message_limit}
-use Rattle.stream_state.specs.declared.Session.{Session}
-use Rattle.stream_state.specs.Layout.{held_of}
 use Rattle.streams.specs.Calls.{FinishSealing}
-use Rattle.streams.proofs.Demand1.{answered}
 use Rattle.streams.proofs.Engines.{tag-output}
-use Rattle.streams.proofs.Settled.{unsound, called_unsound, Holding, state-sized, passed_clear, judgement_of, called_failed, called_passed, put_step}
-use Rattle.refusals.specs.declared.Check.TheVariants.{Passed}
-use Rattle.streams.proofs.finish_sealing.Goals.{After-judge, In-Sound}
+use Rattle.streams.proofs.Answered.{unsound, failed, goes_on}
+use Rattle.streams.proofs.Settled.{passed_clear}
 use Rattle.streams.proofs.finish_sealing.Goals as goal
 
-pub returns-in_default : goal.returns-in_default
+pub returns-in_err-x : goal.returns-in_err-x
+returns-in_err-x c =
+    let k = unsound (FinishSealing c.args.out.now) tt c.from_residual.result c.from_residual.ensures.1 c.in_err-x.ensures in
+    record { called = k.called; demand1 = k.demand1; fits = k.fits }
+
+pub returns-in_err-judge : goal.returns-in_err-judge
 unfolding message_limit
-returns-in_default c =
-    let a = c.args in
-    let k = answered _ _ (called_unsound (FinishSealing a.out.now) tt a.state.now (unsound a.state.now c.read.ensures c.in_default.is)) refl in
-    record { called = k.0; demand1 = k.1.0; fits = k.1.1 }
-
--- The stream that the state holds, and what the rows come to.
-holding : (t : In-Sound) → Holding t.args.state.now t.in-Sound.x
-unfolding message_limit
-holding t = record { held = sym (ap held_of t.in-Sound.is) ∙ t.read.ensures }
-
-judged : (j : After-judge) →
-    j.judge.result ≡ judgement_of (FinishSealing j.args.out.now) j.in-Sound.x.counts
-judged j = rw j.out_of_turn-out_of_turn.ensures at j.judge.ensures
-
-room : (j : After-judge) → j.judge.result ≡ Passed → tag_size ≤ length j.args.out.now
-room j h =
-    ltb-false (length j.args.out.now) tag_size (passed_clear _ _ _ _ (sym (judged j) ∙ h)).room
+returns-in_err-judge c =
+    let judged = rw c.out_of_turn-out_of_turn.ensures at c.judge.ensures in
+    let k = failed (FinishSealing c.args.out.now) tt c.in_ok-x.ensures judged c.from_residual-in_err-judge.result c.from_residual-in_err-judge.ensures.1 c.in_err-judge.was in
+    record { called = k.called; demand1 = k.demand1; fits = k.fits }
 
 pub slice_bounds-spell-end : goal.slice_bounds-spell-end
-slice_bounds-spell-end c = room (goal.at.slice_bounds-spell-end c).After-judge c.in-Passed.is
+slice_bounds-spell-end c =
+    let judged = rw c.out_of_turn-out_of_turn.ensures at c.judge.ensures in
+    ltb-false (length c.args.out.now) tag_size (passed_clear _ _ _ _ (sym judged ∙ c.in_ok-judge.was)).room
 
-pub slice_bounds-spell-end-in-Passed : goal.slice_bounds-spell-end-in-Passed
-slice_bounds-spell-end-in-Passed c =
-    sym (length-take-le 8 c.args.out.now (room (goal.at.slice_bounds-spell-end-in-Passed c).After-judge c.in-Passed.is))
+pub slice_bounds-spell-end-2 : goal.slice_bounds-spell-end-2
+slice_bounds-spell-end-2 c =
+    let judged = rw c.out_of_turn-out_of_turn.ensures at c.judge.ensures in
+    sym (length-take-le 8 c.args.out.now (ltb-false (length c.args.out.now) tag_size (passed_clear _ _ _ _ (sym judged ∙ c.in_ok-judge.was)).room))
 
-pub returns-in-Failed : goal.returns-in-Failed
-returns-in-Failed c =
-    let k = answered _ _ (called_failed (FinishSealing c.args.out.now) tt (holding (goal.at.returns-in-Failed c).In-Sound) (sym (judged (goal.at.returns-in-Failed c).After-judge) ∙ c.in-Failed.is)) refl in
-    record { called = k.0; demand1 = k.1.0; fits = k.1.1 }
-
-pub returns-in-Passed : goal.returns-in-Passed
-returns-in-Passed c =
+pub returns : goal.returns
+returns c =
     let a = c.args in
-    let k = answered _ _
-    (put_step c.ended.result a.state.now (state-sized (holding (goal.at.returns-in-Passed c).In-Sound)) c.ended.ensures c.put.ensures.counted c.put.ensures.stored
-    (tag-output c.in-Sound.x c.finish.result c.finish.ensures a.out.now (room (goal.at.returns-in-Passed c).After-judge c.in-Passed.is) c.spell.ensures)
-    ∙ called_passed (FinishSealing a.out.now) tt (holding (goal.at.returns-in-Passed c).In-Sound) (sym (judged (goal.at.returns-in-Passed c).After-judge) ∙ c.in-Passed.is) refl)
-    c.put.ensures.fits in
-    record { called = k.0; demand1 = k.1.0; fits = k.1.1 }
+    let judged = rw c.out_of_turn-out_of_turn.ensures at c.judge.ensures in
+    let room = ltb-false (length a.out.now) tag_size (passed_clear _ _ _ _ (sym judged ∙ c.in_ok-judge.was)).room in
+    let k = goes_on (FinishSealing a.out.now) tt c.in_ok-x.ensures judged c.in_ok-judge.was refl c.ended.result c.ended.ensures
+    (tag-output c.in_ok-x.x c.finish.result c.finish.ensures a.out.now room c.spell.ensures) c.put.ensures.counted c.put.ensures.stored c.put.ensures.fits in
+    record { called = k.called; demand1 = k.demand1; fits = k.fits }

@@ -2,7 +2,7 @@
 use mathlib.Core.Path.{ap, ◌∙◌}
 use mir.Syntax.{w64}
 use mir.ValLaws.{to_z-of_z}
-use Rattle.refusals.specs.declared.Answer.{Answer}
+use Rattle.refusals.specs.Refusals.{Answer}
 use Rattle.refusals.specs.Signed.{signed_of, capped}
 use Rattle.captures.proofs.Within.{start_fits}
 use Rattle.capi.proofs.capturing.tikhoplav_capture_frame.Goals as goal

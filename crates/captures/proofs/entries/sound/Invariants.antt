@@ -4,7 +4,9 @@ use Rattle.captures.specs.Layout.{entries_sound, head_sound}
 use Rattle.captures.proofs.entries.sound.Given as goal
 
 abbrev pub invariant-loop-k : goal.invariant-loop-k
-invariant-loop-k l = (l.k ≤ l.entries) × (l.entries ≤ 255) × (l.place ≤ 2042 + l.k * 16777216) × (head_sound l.s ≡ entries_sound (l.entries - l.k) l.k l.place l.s)
-
-abbrev pub decreases-loop-k : goal.decreases-loop-k
-decreases-loop-k l = l.entries - l.k
+invariant-loop-k l = record {
+  passed : l.k ≤ l.entries;
+  few : l.entries ≤ 255;
+  near : l.place ≤ 2042 + l.k * 16777216;
+  left : head_sound l.s ≡ entries_sound (l.entries - l.k) l.k l.place l.s;
+}

@@ -1,18 +1,22 @@
 -- `captures::walk::section` meets its contract.
 use Rattle.std.proofs.Common.{◌≡◌, ℕ, ◌+◌, ◌-◌, ◌≤◌, true, false, List, length, sym, ap, ◌∙◌, arith}
+use Rattle.std.proofs.lemmas.Grind.{common_steps}
 use Rattle.refusals.specs.declared.Refusal.{Refusal}
 use Rattle.refusals.specs.declared.Refusal.TheVariants.{BrokenCapture}
 use Rattle.captures.specs.declared.walk.Tally.{Tally}
-use Rattle.captures.specs.declared.walk.Tallied.TheVariants.{Broken, Sound}
-use Rattle.captures.specs.Layout.{capture_limit, head_size, kind_at, is_frame}
+use Rattle.captures.specs.declared.entries.Kind.TheVariants.{Frame, Group}
+use Rattle.std.specs.Prelude.{Ok, Err}
+use Rattle.captures.specs.Layout.{capture_limit, head_size, kind_at, size_at, is_frame}
 use Rattle.captures.specs.Content.{part_of}
 use Rattle.captures.specs.Walk.{walk_section}
 use Rattle.captures.specs.Tallies.{counted, tallied}
 use Rattle.captures.proofs.Finds.{head-found}
+use Rattle.captures.proofs.Heads.{next}
+use Rattle.captures.proofs.Reading.{Told, told, unknown}
 use Rattle.captures.proofs.Tallying.{no_levels, no_head}
 use Rattle.captures.proofs.SectionLoop.{Left, begins, ends, reaches, sized, frame-broken, frame-counted, group-broken, group-tallied}
 use Rattle.captures.proofs.walk.+section.Goals as goal
-use Rattle.captures.proofs.walk.+section.Goals.{After-count-count, After-kind, then-kind-eq0+else-not-is_frame, else-kind-eq0+in-Sound}
+use Rattle.captures.proofs.walk.+section.Goals.{After-count-count, After-part-b, in-Frame, in-Group+in_ok-tally-in-Group}
 
 pub returns-then-levels-eq0 : goal.returns-then-levels-eq0
 returns-then-levels-eq0 t c =
@@ -43,7 +47,7 @@ pub loop-k-init : goal.loop-k-init
 loop-k-init t c = begun t c
 
 -- A turn of the loop, where the kind of entry k is known.
-module _ (t : ℕ) (d : After-kind t) where
+module _ (t : ℕ) (d : After-part-b t) where
   abbrev sought : ℕ
   sought = d.args.sought.0
 
@@ -72,7 +76,7 @@ module _ (t : ℕ) (d : After-kind t) where
   k = d.loop-k.k
 
   abbrev size : ℕ
-  size = d.size-size.result
+  size = d.in-Some.field-0.size
 
   abbrev body : List ℕ
   body = d.part-b.result.now
@@ -80,67 +84,68 @@ module _ (t : ℕ) (d : After-kind t) where
   left : Left sought first base levels s n tally place k
   left = d.loop-k.invariant
 
-  zero_is : d.kind.result ≡ 0 → kind_at k s ≡ 0
-  zero_is e = sym d.kind.ensures ∙ e
-
-  other_is : (d.kind.result ≡ 0 → ⊥) → kind_at k s ≡ 0 → ⊥
-  other_is e z = e (d.kind.ensures ∙ z)
+  read_at : Told (kind_at k s) (size_at k s) d.in-Some.field-0
+  read_at = told (kind_at k s) (size_at k s) d.in-Some.field-0 (sym d.read.ensures ∙ d.in-Some.is)
 
   -- The body lies in the capture.
   reaches_at : base + (place + size) ≤ capture_limit
   reaches_at =
-      omega (arith, reaches sought first tally base levels s n place k left d.loop-k-test.true size d.size-size.ensures body d.part-b.ensures, d.requires.1)
+      omega (arith, reaches sought first tally base levels s n place k left d.loop-k-test.true size read_at.size body d.part-b.ensures, d.requires.1)
 
   sized_at : length body ≡ size
-  sized_at = sized sought first tally base levels s n place k left d.loop-k-test.true size d.size-size.ensures body d.part-b.ensures
+  sized_at = sized sought first tally base levels s n place k left d.loop-k-test.true size read_at.size body d.part-b.ensures
 
-  frame_broken_at : d.kind.result ≡ 0 → is_frame body ≡ false → Broken BrokenCapture ≡ tallied sought first base (walk_section levels s)
-  frame_broken_at z = frame-broken sought first tally base levels s n place k left d.loop-k-test.true size d.size-size.ensures body d.part-b.ensures (zero_is z)
+  frame_broken_at : d.in-Some.field-0.kind ≡ Frame → is_frame body ≡ false → Err BrokenCapture ≡ tallied sought first base (walk_section levels s)
+  frame_broken_at z = frame-broken sought first tally base levels s n place k left d.loop-k-test.true size read_at.size body d.part-b.ensures (read_at.frame z)
 
-  frame_counted_at : (u : Tally) → d.kind.result ≡ 0 → is_frame body ≡ true → u ≡ counted sought tally (part_of (base + place) size)
+  frame_counted_at : (u : Tally) → d.in-Some.field-0.kind ≡ Frame → is_frame body ≡ true → u ≡ counted sought tally (part_of (base + place) size)
       → Left sought first base levels s n u (place + size) (k + 1)
-  frame_counted_at u z is e = rw e (frame-counted sought first tally base levels s n place k left d.loop-k-test.true size d.size-size.ensures body d.part-b.ensures (zero_is z) is)
+  frame_counted_at u z is e = rw e (frame-counted sought first tally base levels s n place k left d.loop-k-test.true size read_at.size body d.part-b.ensures (read_at.frame z) is)
 
-  group_broken_at : (r : Refusal) → (d.kind.result ≡ 0 → ⊥) → Broken r ≡ tallied sought tally (base + place) (walk_section (levels - 1) body)
-      → Broken r ≡ tallied sought first base (walk_section levels s)
-  group_broken_at r z = group-broken sought first tally base levels s n place k left d.loop-k-test.true size d.size-size.ensures body d.part-b.ensures r (other_is z)
+  group_broken_at : (r : Refusal) → (d.in-Some.field-0.kind ≡ Group) → Err r ≡ tallied sought tally (base + place) (walk_section (levels - 1) body)
+      → Err r ≡ tallied sought first base (walk_section levels s)
+  group_broken_at r z = group-broken sought first tally base levels s n place k left d.loop-k-test.true size read_at.size body d.part-b.ensures r (read_at.group z)
 
-  group_tallied_at : (u : Tally) → (d.kind.result ≡ 0 → ⊥) → Sound u ≡ tallied sought tally (base + place) (walk_section (levels - 1) body)
+  group_tallied_at : (u : Tally) → (d.in-Some.field-0.kind ≡ Group) → Ok u ≡ tallied sought tally (base + place) (walk_section (levels - 1) body)
       → Left sought first base levels s n u (place + size) (k + 1)
-  group_tallied_at u z = group-tallied sought first tally base levels s n place k left d.loop-k-test.true size d.size-size.ensures body d.part-b.ensures u (other_is z)
+  group_tallied_at u z = group-tallied sought first tally base levels s n place k left d.loop-k-test.true size read_at.size body d.part-b.ensures u (read_at.group z)
 
-pub returns-then-not-is_frame : goal.returns-then-not-is_frame
-returns-then-not-is_frame t c =
-    frame_broken_at t (goal.at.returns-then-not-is_frame t c).After-kind c.if-kind-eq0.true (sym c.is_frame.ensures ∙ c.if-not-is_frame.true)
+pub returns-in_default : goal.returns-in_default
+returns-in_default t c =
+    let s = c.args.s.now in
+    let k = c.loop-k.k in
+    let e = next c.count-count.result k c.loop-k.place s c.loop-k-test.true c.loop-k.invariant.entries in
+    absurd (omega (arith, e.kind, unknown (kind_at k s) (size_at k s) (sym c.read.ensures ∙ c.in_default.is)))
 
-pub overflow_add-base : goal.overflow_add-base
-overflow_add-base t c = record { fits = omega (arith, reaches_at t (goal.at.overflow_add-base t c).After-kind) }
+pub overflow_add-start : goal.overflow_add-start
+overflow_add-start t c = record { fits = omega (arith, reaches_at t (goal.at.overflow_add-start t c).After-part-b) }
 
 pub counted-tally-requires : goal.counted-tally-requires
-counted-tally-requires t c = omega (arith, c.loop-k.invariant.fewer, reaches_at t (goal.at.counted-tally-requires t c).After-kind)
+counted-tally-requires t c = omega (arith, c.loop-k.invariant.fewer, reaches_at t (goal.at.counted-tally-requires t c).After-part-b)
 
-pub overflow_add-base-else-kind-eq0 : goal.overflow_add-base-else-kind-eq0
-overflow_add-base-else-kind-eq0 t c = record { fits = omega (arith, reaches_at t (goal.at.overflow_add-base-else-kind-eq0 t c).After-kind) }
+pub returns-in-Frame-2 : goal.returns-in-Frame-2
+returns-in-Frame-2 t c =
+    frame_broken_at t (goal.at.returns-in-Frame-2 t c).After-part-b (cc) (sym c.is_frame.ensures ∙ c.if-is_frame.false)
 
-pub section-walked-requires : goal.section-walked-requires
-section-walked-requires t c =
-    let d = (goal.at.section-walked-requires t c).After-kind in
+pub section-requires : goal.section-requires
+section-requires t c =
+    let d = (goal.at.section-requires t c).After-part-b in
     (omega (arith, c.if-levels-eq0.false, c.decreases), (c.loop-k.invariant.fewer, omega (arith, reaches_at t d, sized_at t d)))
 
-pub returns-in-Broken : goal.returns-in-Broken
-returns-in-Broken t c =
-    group_broken_at t (goal.at.returns-in-Broken t c).After-kind _ c.if-kind-eq0.false (sym c.in-Broken.is ∙ c.section-walked.ensures)
+pub returns-in_err-tally-in-Group : goal.returns-in_err-tally-in-Group
+returns-in_err-tally-in-Group t c =
+    let e = group_broken_at t (goal.at.returns-in_err-tally-in-Group t c).After-part-b _ (cc) (sym c.in_err-tally-in-Group.was ∙ c.section.ensures) in
+    grind (arith, common_steps, e)
 
 pub overflow_add-place-in-loop-k : goal.overflow_add-place-in-loop-k
-overflow_add-place-in-loop-k t c = record { fits = omega (arith, reaches_at t (goal.at.overflow_add-place-in-loop-k t c).After-kind) }
+overflow_add-place-in-loop-k t c = record { fits = omega (arith, reaches_at t (goal.at.overflow_add-place-in-loop-k t c).After-part-b) }
 
 pub loop-k-preserved : goal.loop-k-preserved
 loop-k-preserved t c =
-    let d = (goal.at.loop-k-preserved t c).After-kind in
-    elim c.if-kind-eq0.branch [
-      | then-kind-eq0+else-not-is_frame w ↦
-          frame_counted_at t d _ w.if-kind-eq0.true (sym w.is_frame.ensures ∙ w.if-not-is_frame.false) (w.tally-is ∙ w.counted-tally.ensures)
-      | else-kind-eq0+in-Sound w ↦ group_tallied_at t d _ w.if-kind-eq0.false (ap Sound w.tally-is ∙ sym w.in-Sound.is ∙ w.section-walked.ensures)
+    let d = (goal.at.loop-k-preserved t c).After-part-b in
+    elim c.match-kind.branch [
+      | in-Frame w ↦ frame_counted_at t d _ (cc) (sym w.is_frame.ensures ∙ w.if-is_frame.true) (w.tally-is ∙ w.counted-tally.ensures)
+      | in-Group+in_ok-tally-in-Group w ↦ group_tallied_at t d _ (cc) (ap Ok w.tally-is ∙ sym w.in_ok-tally-in-Group.was ∙ w.section.ensures)
     ]
 
 pub returns : goal.returns

@@ -1,5 +1,4 @@
 -- The measure is the levels that are left. The loop's invariant: the bodies that are left come, with the tally so far, to what the whole section comes to.
-use Rattle.std.proofs.Common.{◌-◌}
 use Rattle.captures.proofs.SectionLoop.{Left}
 use Rattle.captures.proofs.walk.+section.Given as goal
 
@@ -8,6 +7,3 @@ decreases-section l = l.levels
 
 abbrev pub invariant-loop-k : goal.invariant-loop-k
 invariant-loop-k l = Left l.sought.0 l.fn.tally l.base l.levels l.s l.count l.tally l.place l.k
-
-abbrev pub decreases-loop-k : goal.decreases-loop-k
-decreases-loop-k l = l.count - l.k

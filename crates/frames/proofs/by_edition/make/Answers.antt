@@ -5,8 +5,9 @@ use Prim.Native.Nat.{ℕ, ◌+◌, ◌-◌}
 use native.Mathlib.Omega.{arith}
 use borrow.Rule.Slice.PartMut.{put_mid, same_len_mid}
 use lib.ListN.{length, set}
-use Rattle.refusals.specs.Refusals.{among}
-use Rattle.refusals.specs.Outcome.{Outcome}
+use Rattle.refusals.specs.Refusals.{Answer, among}
+use Rattle.refusals.specs.Outcome.{Outcome, outcome}
+use Rattle.refusals.proofs.Returned.{handed_on}
 use Rattle.checks.specs.Demand1.{Demand1}
 use Rattle.machine.specs.declared.edition.Edition.{Edition}
 use Rattle.frame_checks.specs.Order as order
@@ -14,7 +15,7 @@ use Rattle.frames.specs.Field.{frame_ad, data_field}
 use Rattle.frames.specs.Calls.{making_rows, made}
 use Rattle.frames.specs.Demand2.{Making}
 use Rattle.frames.proofs.Demand2.{demand1_making, making}
-use Rattle.frames.proofs.Entry.{set_room, part_kept, MakeChecked, make_failed, make_clear, make_holds, make_passed}
+use Rattle.frames.proofs.Entry.{set_room, part_kept, MakeChecked, make_failed, make_clear, make_holds, make_seals, make_passed}
 use Rattle.frames.proofs.by_edition.make.Goals.{After-judge_making, After-seal}
 use Rattle.frames.proofs.by_edition.make.Goals as goal
 
@@ -45,34 +46,39 @@ kept s =
 
 pub overflow_cast-out : goal.overflow_cast-out
 overflow_cast-out c =
-    record { fits = omega (arith, (make_clear (checked (goal.at.overflow_cast-out c).After-judge_making) c.in-Passed.is).message_fits) }
+    record { fits = omega (arith, (make_clear (checked (goal.at.overflow_cast-out c).After-judge_making) c.in_ok-judge_making.was).message_fits) }
 
 pub bounds-out-0 : goal.bounds-out-0
 bounds-out-0 c =
     let j = checked (goal.at.bounds-out-0 c).After-judge_making in
-    omega (arith, make_holds j c.in-Passed.is, (make_clear j c.in-Passed.is).fits)
+    omega (arith, make_holds j c.in_ok-judge_making.was, (make_clear j c.in_ok-judge_making.was).fits)
 
-pub slice_bounds-seal-end-in-Passed : goal.slice_bounds-seal-end-in-Passed
-slice_bounds-seal-end-in-Passed c =
-    let j = checked (goal.at.slice_bounds-seal-end-in-Passed c).After-judge_making in
-    set_room c.args.out.now (length c.args.message.now) (omega (arith, make_holds j c.in-Passed.is, (make_clear j c.in-Passed.is).fits))
+pub slice_bounds-seal-end-2 : goal.slice_bounds-seal-end-2
+slice_bounds-seal-end-2 c =
+    let j = checked (goal.at.slice_bounds-seal-end-2 c).After-judge_making in
+    set_room c.args.out.now (length c.args.message.now) (omega (arith, make_holds j c.in_ok-judge_making.was, (make_clear j c.in_ok-judge_making.was).fits))
+
+pub unwrap-requires : goal.unwrap-requires
+unwrap-requires c =
+    make_seals (checked (goal.at.unwrap-requires c).After-judge_making) c.in_ok-judge_making.was c.args.edition c.frame_ad-ad.result
+    (c.frame_ad-ad.ensures ∙ ap (frame_ad c.args.identifier) c.field_code.ensures) c.seal.ensures.sealed
 
 pub slice_bounds-spell-count : goal.slice_bounds-spell-count
 slice_bounds-spell-count c =
-    omega (arith, c.field_size-size.ensures, make_holds (checked (goal.at.slice_bounds-spell-count c).After-judge_making) c.in-Passed.is)
+    omega (arith, c.field_size-size.ensures, make_holds (checked (goal.at.slice_bounds-spell-count c).After-judge_making) c.in_ok-judge_making.was)
 
 pub slice_bounds-spell-start : goal.slice_bounds-spell-start
 slice_bounds-spell-start c =
-    omega (arith, c.field_size-size.ensures, make_holds (checked (goal.at.slice_bounds-spell-start c).After-judge_making) c.in-Passed.is)
+    omega (arith, c.field_size-size.ensures, make_holds (checked (goal.at.slice_bounds-spell-start c).After-judge_making) c.in_ok-judge_making.was)
 
 pub slice_bounds-spell-end : goal.slice_bounds-spell-end
 slice_bounds-spell-end c =
-    omega (arith, kept (goal.at.slice_bounds-spell-end c).After-seal, c.field_size-size.ensures, (make_clear (checked (goal.at.slice_bounds-spell-end c).After-judge_making) c.in-Passed.is).fits)
+    omega (arith, kept (goal.at.slice_bounds-spell-end c).After-seal, c.field_size-size.ensures, (make_clear (checked (goal.at.slice_bounds-spell-end c).After-judge_making) c.in_ok-judge_making.was).fits)
 
-pub returns-in-Failed : goal.returns-in-Failed
-returns-in-Failed c =
+pub returns-in_err-judge_making : goal.returns-in_err-judge_making
+returns-in_err-judge_making c =
     let a = c.args in
-    let k = called a.edition a.key.now a.nonce.now a.identifier a.message.now a.out.now (make_failed (checked (goal.at.returns-in-Failed c).After-judge_making) a.edition c.in-Failed.is) in
+    let k = called a.edition a.key.now a.nonce.now a.identifier a.message.now a.out.now (ap (λ (r : Answer). outcome r a.out.now) (handed_on c.from_residual.result _ c.from_residual.ensures.1) ∙ make_failed (checked (goal.at.returns-in_err-judge_making c).After-judge_making) a.edition c.in_err-judge_making.was) in
     record { made = k.0; demand1 = k.1.0; demand2 = k.1.1 }
 
 pub shape_of-out : goal.shape_of-out
@@ -80,10 +86,10 @@ shape_of-out c =
     let end = length c.args.message.now + 9 in
     same_len_mid end (c.field_size-size.result - end) _ c.spell.new.out c.spell.auto.out ∙ kept (goal.at.shape_of-out c).After-seal
 
-pub returns-in-Passed : goal.returns-in-Passed
-returns-in-Passed c =
+pub returns : goal.returns
+returns c =
     let a = c.args in
     let k = called a.edition a.key.now a.nonce.now a.identifier a.message.now a.out.now
-    (make_passed (checked (goal.at.returns-in-Passed c).After-judge_making) c.in-Passed.is a.edition c.seal.new.out c.spell.new.out c.frame_ad-ad.result c.field_size-size.result
+    (make_passed (checked (goal.at.returns c).After-judge_making) c.in_ok-judge_making.was a.edition c.seal.new.out c.spell.new.out c.frame_ad-ad.result c.field_size-size.result
     (c.frame_ad-ad.ensures ∙ ap (frame_ad a.identifier) c.field_code.ensures) c.field_size-size.ensures c.seal.ensures.sealed c.spell.ensures) in
     record { made = k.0; demand1 = k.1.0; demand2 = k.1.1 }

@@ -1,11 +1,12 @@
 -- `frames::by_edition::read` meets its contract.
-use mathlib.Core.Path.{◌≡◌, sym, subst}
+use mathlib.Core.Path.{◌≡◌, sym, ap, ◌∙◌, subst}
 use mathlib.Core.List.{List}
 use Prim.Native.Nat.{ℕ}
 use native.Mathlib.Omega.{arith}
 use Rattle.bits.specs.Bytes.{Bytes}
-use Rattle.refusals.specs.Refusals.{among}
-use Rattle.refusals.specs.Outcome.{Outcome}
+use Rattle.refusals.specs.Refusals.{Answer, among}
+use Rattle.refusals.specs.Outcome.{Outcome, outcome}
+use Rattle.refusals.proofs.Returned.{handed_on}
 use Rattle.checks.specs.Demand1.{Demand1}
 use Rattle.machine.specs.declared.edition.Edition.{Edition}
 use Rattle.frame_checks.specs.Order as order
@@ -37,19 +38,19 @@ checked j = record { checked = j.judge_reading.ensures }
 is-bytes : (j : After-judge_reading) → Bytes j.args.field.now
 is-bytes j i = omega (arith, j.type_inv.field i)
 
-pub slice_bounds-open-end-in-Passed : goal.slice_bounds-open-end-in-Passed
-slice_bounds-open-end-in-Passed c =
-    omega (arith, c.announced.ensures, read-holds (checked (goal.at.slice_bounds-open-end-in-Passed c).After-judge_reading) c.in-Passed.is)
+pub slice_bounds-open-end-2 : goal.slice_bounds-open-end-2
+slice_bounds-open-end-2 c =
+    omega (arith, c.announced.ensures, read-holds (checked (goal.at.slice_bounds-open-end-2 c).After-judge_reading) c.in_ok-judge_reading.was)
 
-pub returns-in-Failed : goal.returns-in-Failed
-returns-in-Failed c =
+pub returns-in_err-judge_reading : goal.returns-in_err-judge_reading
+returns-in_err-judge_reading c =
     let a = c.args in
-    let k = called a.edition a.key.now a.nonce.now a.identifier a.code a.field.now a.out.now (is-bytes (goal.at.returns-in-Failed c).After-judge_reading) (read_failed (checked (goal.at.returns-in-Failed c).After-judge_reading) a.edition c.in-Failed.is) in
+    let k = called a.edition a.key.now a.nonce.now a.identifier a.code a.field.now a.out.now (is-bytes (goal.at.returns-in_err-judge_reading c).After-judge_reading) (ap (λ (r : Answer). outcome r a.out.now) (handed_on c.from_residual.result _ c.from_residual.ensures.1) ∙ read_failed (checked (goal.at.returns-in_err-judge_reading c).After-judge_reading) a.edition c.in_err-judge_reading.was) in
     record { read = k.0; demand1 = k.1.0; promises = k.1.1 }
 
-pub returns-in-Passed : goal.returns-in-Passed
-returns-in-Passed c =
+pub returns : goal.returns
+returns c =
     let a = c.args in
-    let k = called a.edition a.key.now a.nonce.now a.identifier a.code a.field.now a.out.now (is-bytes (goal.at.returns-in-Passed c).After-judge_reading)
-    (read_passed (checked (goal.at.returns-in-Passed c).After-judge_reading) c.in-Passed.is a.edition c.frame_ad-ad.result c.announced.result c.frame_ad-ad.ensures c.announced.ensures c.«open».ensures.opened) in
+    let k = called a.edition a.key.now a.nonce.now a.identifier a.code a.field.now a.out.now (is-bytes (goal.at.returns c).After-judge_reading)
+    (read_passed (checked (goal.at.returns c).After-judge_reading) c.in_ok-judge_reading.was a.edition c.frame_ad-ad.result c.announced.result c.frame_ad-ad.ensures c.announced.ensures c.«open».ensures.opened) in
     record { read = k.0; demand1 = k.1.0; promises = k.1.1 }

@@ -6,8 +6,10 @@ use native.Mathlib.Omega.{arith}
 use lib.Dec.{ltb}
 use lib.ListN.{length}
 use Rattle.bits.specs.Bytes.{Bytes}
-use Rattle.refusals.specs.declared.Check.{Check}
-use Rattle.refusals.specs.Outcome.{Outcome}
+use Rattle.refusals.specs.Refusals.{Check}
+use Rattle.refusals.specs.Refusals.{Answer}
+use Rattle.refusals.specs.Outcome.{Outcome, outcome}
+use Rattle.refusals.proofs.Returned.{handed_on}
 use Rattle.machine.specs.declared.edition.Edition.{Edition}
 use Rattle.tagged.proofs.Entry.{no_room}
 use Rattle.payload.specs.Sizes.{tag_size}
@@ -63,39 +65,46 @@ compared : (n : After-number) →
     let a = n.args in
     Compared a.edition a.key.now a.nonce.now a.ad.now a.input.now n.begin-begun.result n.decipher_all-done.result n.finish.result n.number.result
 compared n =
+    let key_same = (rw n.unwrap.ensures at n.try_into.ensures.1).same in
+    let nonce_same = (rw n.unwrap-2.ensures at n.try_into-2.ensures.1).same in
     record {
       is_bytes = λ i. omega (arith, n.type_inv.input i);
-      began = n.begin-begun.ensures;
+      began = rw (key_same, nonce_same) at n.begin-begun.ensures;
       ran = rw n.ciphertext_part-ciphertext.ensures at n.decipher_all-done.ensures;
       tagged = n.finish.ensures;
       small = omega (arith, n.finish.type_inv);
       spelled = rw n.tag_part.ensures at n.number.ensures;
     }
 
-pub begin-begun-requires : goal.begin-begun-requires
-begin-begun-requires c =
-    let h = open_clear (checked (goal.at.begin-begun-requires c).After-judge) c.in-Passed.is in
-    (h.key_sized, h.nonce_sized)
+pub unwrap-requires : goal.unwrap-requires
+unwrap-requires c =
+    let h = open_clear (checked (goal.at.unwrap-requires c).After-judge) c.in_ok-judge.was in
+    c.try_into.ensures.0 h.key_sized
 
-pub overflow_sub-count : goal.overflow_sub-count
-overflow_sub-count c =
-    omega (arith, open_reaches (checked (goal.at.overflow_sub-count c).After-judge) c.in-Passed.is)
+pub unwrap-requires-2 : goal.unwrap-requires-2
+unwrap-requires-2 c =
+    let h = open_clear (checked (goal.at.unwrap-requires-2 c).After-judge) c.in_ok-judge.was in
+    c.try_into-2.ensures.0 h.nonce_sized
 
-pub returns-in-Failed : goal.returns-in-Failed
-returns-in-Failed c =
+pub overflow_sub-result : goal.overflow_sub-result
+overflow_sub-result c =
+    omega (arith, open_reaches (checked (goal.at.overflow_sub-result c).After-judge) c.in_ok-judge.was)
+
+pub returns-in_err-judge : goal.returns-in_err-judge
+returns-in_err-judge c =
     let a = c.args in
-    let k = called a.edition a.key.now a.nonce.now a.ad.now a.input.now a.out.now (is-bytes (goal.at.returns-in-Failed c).After-judge) (open_failed (checked (goal.at.returns-in-Failed c).After-judge) a.edition c.in-Failed.is) in
+    let k = called a.edition a.key.now a.nonce.now a.ad.now a.input.now a.out.now (is-bytes (goal.at.returns-in_err-judge c).After-judge) (ap (λ (r : Answer). outcome r a.out.now) (handed_on c.from_residual.result _ c.from_residual.ensures.1) ∙ open_failed (checked (goal.at.returns-in_err-judge c).After-judge) a.edition c.in_err-judge.was) in
+    record { opened = k.0; demand1 = k.1.0; demand2 = k.1.1.0; demand3 = k.1.1.1.0; substitution = k.1.1.1.1 }
+
+pub returns : goal.returns
+returns c =
+    let a = c.args in
+    let k = called a.edition a.key.now a.nonce.now a.ad.now a.input.now a.out.now (is-bytes (goal.at.returns c).After-judge)
+    (open_passed (checked (goal.at.returns c).After-judge) c.in_ok-judge.was (compared (goal.at.returns c).After-number) c.if-finish-number.false (rw c.ciphertext_part-ciphertext.ensures at c.add_keystream.ensures)) in
     record { opened = k.0; demand1 = k.1.0; demand2 = k.1.1.0; demand3 = k.1.1.1.0; substitution = k.1.1.1.1 }
 
 pub returns-then-finish-number : goal.returns-then-finish-number
 returns-then-finish-number c =
     let a = c.args in
-    let k = called a.edition a.key.now a.nonce.now a.ad.now a.input.now a.out.now (is-bytes (goal.at.returns-then-finish-number c).After-judge)
-    (open_passed (checked (goal.at.returns-then-finish-number c).After-judge) c.in-Passed.is (compared (goal.at.returns-then-finish-number c).After-number) c.if-finish-number.true (rw c.ciphertext_part-ciphertext.ensures at c.add_keystream.ensures)) in
-    record { opened = k.0; demand1 = k.1.0; demand2 = k.1.1.0; demand3 = k.1.1.1.0; substitution = k.1.1.1.1 }
-
-pub returns-else-finish-number : goal.returns-else-finish-number
-returns-else-finish-number c =
-    let a = c.args in
-    let k = called a.edition a.key.now a.nonce.now a.ad.now a.input.now a.out.now (is-bytes (goal.at.returns-else-finish-number c).After-judge) (open_differs (checked (goal.at.returns-else-finish-number c).After-judge) c.in-Passed.is (compared (goal.at.returns-else-finish-number c).After-number) c.if-finish-number.false) in
+    let k = called a.edition a.key.now a.nonce.now a.ad.now a.input.now a.out.now (is-bytes (goal.at.returns-then-finish-number c).After-judge) (open_differs (checked (goal.at.returns-then-finish-number c).After-judge) c.in_ok-judge.was (compared (goal.at.returns-then-finish-number c).After-number) c.if-finish-number.true) in
     record { opened = k.0; demand1 = k.1.0; demand2 = k.1.1.0; demand3 = k.1.1.1.0; substitution = k.1.1.1.1 }

@@ -1,13 +1,14 @@
 -- `grain128aead::by_edition::seal` meets its contract.
-use mathlib.Core.Path.{◌≡◌, sym, subst}
+use mathlib.Core.Path.{◌≡◌, sym, ap, ◌∙◌, subst}
 use mathlib.Core.List.{List}
-use Prim.Native.Nat.{ℕ, ◌+◌, ◌≤◌}
+use Prim.Native.Nat.{ℕ}
 use native.Mathlib.Omega.{arith}
 use lib.ListN.{length}
 use Rattle.bits.proofs.Written.{word-written}
-use Rattle.refusals.specs.Outcome.{Outcome}
+use Rattle.refusals.specs.Refusals.{Answer}
+use Rattle.refusals.specs.Outcome.{Outcome, outcome}
+use Rattle.refusals.proofs.Returned.{handed_on}
 use Rattle.machine.specs.declared.edition.Edition.{Edition}
-use Rattle.payload.specs.Sizes.{tag_size}
 use Rattle.payload.specs.Payload.{payload}
 use Rattle.limits.specs.Limits.{message_limit}
 use Rattle.grain128aead.specs.Sizes.{ad_limit}
@@ -38,29 +39,36 @@ checked : (j : After-judge) →
 unfolding ad_limit message_limit
 checked j = record { checked = j.judge.ensures }
 
-pub begin-begun-requires : goal.begin-begun-requires
-begin-begun-requires c =
-    let h = seal_clear (checked (goal.at.begin-begun-requires c).After-judge) c.in-Passed.is in
-    (h.key_sized, h.nonce_sized)
+pub unwrap-requires : goal.unwrap-requires
+unwrap-requires c =
+    let h = seal_clear (checked (goal.at.unwrap-requires c).After-judge) c.in_ok-judge.was in
+    c.try_into.ensures.0 h.key_sized
+
+pub unwrap-requires-2 : goal.unwrap-requires-2
+unwrap-requires-2 c =
+    let h = seal_clear (checked (goal.at.unwrap-requires-2 c).After-judge) c.in_ok-judge.was in
+    c.try_into-2.ensures.0 h.nonce_sized
 
 pub overflow_add-end : goal.overflow_add-end
-overflow_add-end c = omega (arith, seal_room (checked (goal.at.overflow_add-end c).After-judge) c.in-Passed.is, c.well_formed)
+overflow_add-end c = omega (arith, seal_room (checked (goal.at.overflow_add-end c).After-judge) c.in_ok-judge.was, c.well_formed)
 
 pub slice_bounds-spell-end : goal.slice_bounds-spell-end
 slice_bounds-spell-end c =
-    omega (arith, c.encipher_all-done.auto, seal_room (checked (goal.at.slice_bounds-spell-end c).After-judge) c.in-Passed.is)
+    omega (arith, c.encipher_all-done.auto, seal_room (checked (goal.at.slice_bounds-spell-end c).After-judge) c.in_ok-judge.was)
 
-pub returns-in-Failed : goal.returns-in-Failed
-returns-in-Failed c =
+pub returns-in_err-judge : goal.returns-in_err-judge
+returns-in_err-judge c =
     let a = c.args in
     let k = called a.edition a.key.now a.nonce.now a.ad.now a.message.now a.out.now
-    (seal_failed (checked (goal.at.returns-in-Failed c).After-judge) a.edition c.in-Failed.is) in
+    (ap (λ (r : Answer). outcome r a.out.now) (handed_on c.from_residual.result _ c.from_residual.ensures.1) ∙ seal_failed (checked (goal.at.returns-in_err-judge c).After-judge) a.edition c.in_err-judge.was) in
     record { sealed = k.0; demand1 = k.1.0; demand2 = k.1.1 }
 
-pub returns-in-Passed : goal.returns-in-Passed
-returns-in-Passed c =
+pub returns : goal.returns
+returns c =
     let a = c.args in
+    let key_same = (rw c.unwrap.ensures at c.try_into.ensures.1).same in
+    let nonce_same = (rw c.unwrap-2.ensures at c.try_into-2.ensures.1).same in
     let k = called a.edition a.key.now a.nonce.now a.ad.now a.message.now a.out.now
-    (seal_passed (checked (goal.at.returns-in-Passed c).After-judge) c.in-Passed.is a.edition c.begin-begun.result c.encipher_all-done.result c.finish.result
-    c.begin-begun.ensures c.encipher_all-done.ensures c.finish.ensures (word-written _ (length a.message.now) 8 c.finish.result (omega (arith, c.encipher_all-done.auto, seal_room (checked (goal.at.returns-in-Passed c).After-judge) c.in-Passed.is)) c.spell.ensures)) in
+    (seal_passed (checked (goal.at.returns c).After-judge) c.in_ok-judge.was a.edition c.begin-begun.result c.encipher_all-done.result c.finish.result
+    (rw (key_same, nonce_same) at c.begin-begun.ensures) c.encipher_all-done.ensures c.finish.ensures (word-written _ (length a.message.now) 8 c.finish.result (omega (arith, c.encipher_all-done.auto, seal_room (checked (goal.at.returns c).After-judge) c.in_ok-judge.was)) c.spell.ensures)) in
     record { sealed = k.0; demand1 = k.1.0; demand2 = k.1.1 }

@@ -2,7 +2,6 @@
 use mathlib.Core.Path.{◌≡◌, sym, ap, ◌∙◌, subst}
 use mathlib.Core.List.{List}
 use Prim.Native.Nat.{ℕ}
-use borrow.Author.Tests.{not-true}
 use Rattle.refusals.specs.Outcome.{Outcome}
 use Rattle.refusals.specs.Refusals.{among}
 use Rattle.machine.specs.declared.edition.Edition.{Edition}

@@ -3,7 +3,6 @@ use mathlib.Core.Path.{◌≡◌, sym, ap, ◌∙◌, subst}
 use mathlib.Core.List.{List}
 use Prim.Native.Nat.{ℕ}
 use native.Mathlib.Omega.{arith}
-use borrow.Author.Tests.{not-true}
 use Rattle.bits.specs.Bytes.{Bytes}
 use Rattle.refusals.specs.Refusals.{among}
 use Rattle.refusals.specs.Outcome.{Outcome}

@@ -5,4 +5,5 @@ use Rattle.signals.proofs.raw.unsigned.Goals as goal
 pub returns : goal.returns
 returns c =
     let a = c.args in
-    field_cut a.message.now a.start a.width c.requires c.number-n.result c.number-n.ensures
+    let last = c.div_ceil-last.ensures in
+    rw last (field_cut a.message.now a.start a.width c.requires c.number-n.result (rw last at c.number-n.ensures))

@@ -2,7 +2,7 @@
 use mathlib.Core.Path.{ap₂, ◌∙◌}
 use Rattle.machine.specs.declared.edition.Edition.{Edition}
 use Rattle.machine.specs.Machine.{State, run}
-use Rattle.startup.specs.Editions.{bits_in, initialised}
+use Rattle.startup.specs.Editions.{bits_in}
 use Rattle.lengths.specs.CodedLength.{coded_length}
 use Rattle.streams.proofs.Engines.{start-edition}
 use Rattle.streams.proofs.going.start.Goals as goal
@@ -10,6 +10,5 @@ use Rattle.streams.proofs.going.start.Goals as goal
 pub returns : goal.returns
 returns c =
     let a = c.args in
-    let began = c.start.ensures ∙ ap₂ (initialised a.edition) c.copy_from_slice.ensures.after c.copy_from_slice-2.ensures.after in
     c.absorb_length.ensures
-    ∙ ap₂ (λ (v : Edition) (st : State). run st (bits_in v (coded_length a.announced))) (start-edition a.edition a.key.now a.nonce.now c.start.result began) began
+    ∙ ap₂ (λ (v : Edition) (st : State). run st (bits_in v (coded_length a.announced))) (start-edition a.edition a.key.now a.nonce.now c.start.result c.start.ensures) c.start.ensures
