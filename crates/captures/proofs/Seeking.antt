@@ -4,9 +4,11 @@ use Rattle.std.proofs.Common.{◌≡◌, ℕ, suc, ◌+◌, ◌-◌, ◌<◌, �
 use native.Mathlib.Nat.{sub-zero}
 use native.Mathlib.Decide.{ℕ_discrete}
 use Rattle.refusals.specs.declared.Refusal.TheVariants.{PastLastFrame}
+use Rattle.refusals.specs.Refusals.{Answer}
 use Rattle.std.specs.Prelude.{Ok, Err}
 use Rattle.captures.specs.declared.Part.{Part}
 use Rattle.captures.specs.declared.walk.Tally.{Tally}
+use Rattle.captures.specs.Answers.{Tallied}
 use Rattle.captures.specs.Content.{frames_of}
 use Rattle.captures.specs.Walk.{Walked, broken, sound}
 use Rattle.captures.specs.Tallies.{counted, counted_all, tallied, nothing}
@@ -37,15 +39,17 @@ ahead sought t (p ∷ ps) h less =
 sought_found : (sought : ℕ) (ps : List Part) → sought < length ps → numbered ps sought ≡ Ok (counted_all sought nothing ps).found
 sought_found sought ps h = ap (numbered ps) (sym (sub-zero sought)) ∙ ahead sought nothing ps (omega arith) (omega arith)
 
+-- The count of frames in a tally, or the refusal.
+abbrev pub frames_told : Tallied → Answer
+frames_told (Ok t) = Ok t.frames
+frames_told (Err r) = Err r
+
+pub counts : (sought : ℕ) (w : Walked) → frames_told (tallied sought nothing 0 w) ≡ count_of w
+counts sought (broken q) = refl
+counts sought (sound c) = ap Ok (frames-counted sought nothing (frames_of 0 c) ∙ zero-add (length (frames_of 0 c)))
+
 -- What a walk with a tally tells of the answers.
 module _ (sought : ℕ) (w : Walked) where
-  pub count-sound : (t : Tally) → Ok t ≡ tallied sought nothing 0 w → Ok t.frames ≡ count_of w
-  count-sound t = go w
-    where
-      go : (w : Walked) → Ok t ≡ tallied sought nothing 0 w → Ok t.frames ≡ count_of w
-      go (broken q) e = let z : ◌≡◌ {A = ℕ} 0 1 = cc in absurd (omega arith)
-      go (sound c) e = let same : t ≡ counted_all sought nothing (frames_of 0 c) = cc in rw same (ap Ok (frames-counted sought nothing (frames_of 0 c) ∙ zero-add (length (frames_of 0 c))))
-
   pub found-sound : (t : Tally) → Ok t ≡ tallied sought nothing 0 w → (sought < t.frames → Ok t.found ≡ found_in w sought) × (t.frames ≤ sought → Err PastLastFrame ≡ found_in w sought)
   found-sound t = go w
     where

@@ -28,8 +28,7 @@ pub struct Part {
 pub fn frames(capture: &[u8]) -> Result<usize, Refusal>
     ensures { result ≡ calls.frames capture.now }
 {
-    let t = walk::capture(capture, FrameNumber(0))?;
-    Ok(t.frames)
+    walk::capture(capture, FrameNumber(0)).map(|t| t.frames)
 }
 
 // Where a frame lies.

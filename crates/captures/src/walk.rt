@@ -53,6 +53,7 @@ fn section(
     let mut tally = tally;
     let mut place = 2 + 8 * count;
     for k in 0..count {
+        // `sound` has judged each entry, so `read` finds one.
         let Some(Entry { kind, size }) = entries::read(s, k) else {
             return Err(Refusal::BrokenCapture);
         };

@@ -34,6 +34,7 @@ pub fn make(
     let m = message.len();
     let end = m + 9;
     out[0] = m as u8;
+    // It can't fail: the rows of making leave nothing that sealing refuses, and the part is just as long as the payload.
     by_edition::seal(edition, key, nonce, &ad, message, &mut out[1..end]).unwrap();
     bits::spell(0, &mut out[end..size]);
     Ok(size)

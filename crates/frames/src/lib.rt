@@ -21,13 +21,8 @@ use refusals::Refusal;
 pub fn frame_ad(identifier: u32, code: u32) -> [u8; 5]
     ensures { result ≡ fields.frame_ad identifier code }
 {
-    [
-        (identifier / 0x0100_0000 % 256) as u8,
-        (identifier / 0x0001_0000 % 256) as u8,
-        (identifier / 0x0000_0100 % 256) as u8,
-        (identifier % 256) as u8,
-        (code % 256) as u8,
-    ]
+    let [i0, i1, i2, i3] = identifier.to_be_bytes();
+    [i0, i1, i2, i3, (code % 256) as u8]
 }
 
 // Makes a sealed data field from a message, at the front of the output: M, the ciphertext, the tag, zeros.

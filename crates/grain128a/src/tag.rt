@@ -13,7 +13,7 @@ use machine::engine::Engine;
 pub fn size(tag_bits: u32) -> usize
     ensures { result ≡ tag_size tag_bits }
 {
-    (tag_bits as usize + 7) / 8
+    (tag_bits as usize).div_ceil(8)
 }
 
 // The tag, from the machine before the final 1: the lowest bits of the accumulator's word, and zeros up to whole bytes.

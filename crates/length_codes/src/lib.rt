@@ -13,7 +13,7 @@ const LENGTHS: [usize; 16] = [0, 1, 2, 3, 4, 5, 6, 7, 8, 12, 16, 20, 24, 32, 48,
 pub fn coded_length(code: u32) -> usize
     ensures { result ≡ codes.coded_length code }
 {
-    if code < 16 { LENGTHS[code as usize] } else { 0 }
+    LENGTHS.get(code as usize).copied().unwrap_or(0)
 }
 
 // The smallest code that holds a length; of a length over 64, 16, which is no code.

@@ -1,6 +1,6 @@
 // The editions of Grain-128AEAD.
 #[derive(Clone, Copy)]
 pub enum Edition {
-    First,
-    Second,
+    First = 1,
+    Second = 2,
 }

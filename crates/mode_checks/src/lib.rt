@@ -14,10 +14,7 @@ use refusals::Refusal;
 fn mode_bit(nonce: &[u8]) -> bool
     ensures { result ≡ mode_bit nonce.now }
 {
-    if nonce.len() == 0 {
-        return false;
-    }
-    nonce[0] >> 7 == 1
+    nonce.first().is_some_and(|byte| *byte >> 7 == 1)
 }
 
 // The first of the rows on key and nonce that applies, in the mode with authentication or in the one without.

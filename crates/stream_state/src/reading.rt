@@ -1,6 +1,6 @@
 // A stream read from its bytes, place by place.
-ghost use Rattle.std.specs.Prelude.{◌≡◌, ◌+◌, ◌≤◌, length, take, drop};
-ghost use Rattle.bits.specs.Bytes.{word, bits, same};
+ghost use Rattle.std.specs.Prelude.{◌≡◌, ◌+◌, ◌≤◌, length, drop};
+ghost use Rattle.bits.specs.Bytes.{same};
 ghost use Rattle.machine.specs.Engine.{state_of};
 ghost use Rattle.stream_state.specs.Layout.{two_at, machine_at, counts_at, spare};
 
@@ -10,21 +10,12 @@ use machine::engine::Engine;
 use preoutput::Registers;
 use stream_checks::counts::Counts;
 
-// Eight bytes as a word.
-fn word_at(state: &[u8], at: usize) -> u64
-    requires { at + 8 ≤ length state.now }
-    ensures { word 64 result ≡ bits (take 8 (drop at state.now)) }
-{
-    let end = at + 8;
-    bits::number(&state[at..end])
-}
-
 // Two bytes as a number.
 fn two_at(state: &[u8], at: usize) -> u16
     requires { at + 2 ≤ length state.now }
     ensures { result ≡ two_at at state.now }
 {
-    state[at] as u16 * 256 + state[at + 1] as u16
+    u16::from_be_bytes([state[at], state[at + 1]])
 }
 
 // The machine of a state.
@@ -34,14 +25,14 @@ pub fn machine(edition: Edition, state: &[u8; 64]) -> Engine
     Engine {
         edition,
         registers: Registers {
-            lfsr0: word_at(state, 0),
-            lfsr1: word_at(state, 8),
-            nfsr0: word_at(state, 16),
-            nfsr1: word_at(state, 24),
+            lfsr0: bits::number(&state[..8]),
+            lfsr1: bits::number(&state[8..16]),
+            nfsr0: bits::number(&state[16..24]),
+            nfsr1: bits::number(&state[24..32]),
         },
         tagger: Tagger {
-            accumulator: word_at(state, 32),
-            register: word_at(state, 40),
+            accumulator: bits::number(&state[32..40]),
+            register: bits::number(&state[40..48]),
         },
     }
 }

@@ -20,10 +20,7 @@ pub fn counts_word(c: Counts) -> u64
 pub fn edition_word(edition: Edition) -> u64
     ensures { bytes 8 (word 64 result) ≡ editions.number edition ∷ spare }
 {
-    match edition {
-        Edition::First => 0x0100_0000_0000_0000,
-        Edition::Second => 0x0200_0000_0000_0000,
-    }
+    (edition as u64) << 56
 }
 
 // Writes the bytes of words one after the other.

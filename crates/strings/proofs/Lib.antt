@@ -1,3 +1,4 @@
 pub mod OverBytes
 pub mod ByteStrings
 pub mod Writing
+pub mod Words

@@ -51,10 +51,9 @@ fn crypt_words(
     ensures { CryptsAll edition writes sealing (state_of e) (take (length s.now / 4 * 4) s.now) out.old out.new result }
 {
     let mut now = e;
-    for i in 0..s.len() / 4 {
-        let at = i * 4;
-        let c = engine::crypt_word(now, word_at(edition, s, at), sealing);
-        put(edition, out, at, 4, c.text, writes);
+    for (i, four) in s.chunks_exact(4).enumerate() {
+        let c = engine::crypt_word(now, editions::ordered(edition, bits::number(four)), sealing);
+        put(edition, out, i * 4, 4, c.text, writes);
         now = c.engine;
     }
     now
@@ -74,9 +73,9 @@ fn crypt_rest(
     ensures { Continues edition writes sealing e result (take from s.now) s.now out.old out.new }
 {
     let mut now = e;
-    for i in from..s.len() {
-        let c = engine::crypt_byte(now, editions::ordered_byte(edition, s[i]), sealing);
-        put(edition, out, i, 1, bits::wide(c.text), writes);
+    for (i, &byte) in s[from..].iter().enumerate() {
+        let c = engine::crypt_byte(now, editions::ordered_byte(edition, byte), sealing);
+        put(edition, out, from + i, 1, bits::wide(c.text), writes);
         now = c.engine;
     }
     now
@@ -116,11 +115,7 @@ pub fn decipher_all(e: Engine, s: &[u8]) -> Engine
 pub fn encipher_all(e: Engine, s: &[u8], out: &mut [u8]) -> Engine
     ensures { CryptsAll e.edition true true (state_of e) (take (length out.old) s.now) out.old out.new result }
 {
-    let room = out.len();
-    if s.len() <= room {
-        return crypt(e, s, out, true, true);
-    }
-    crypt(e, &s[..room], out, true, true)
+    crypt(e, &s[..s.len().min(out.len())], out, true, true)
 }
 
 // The whole words of a string with the keystream added, to the front of an output that has room for the string.
@@ -175,10 +170,5 @@ fn add_fitting(edition: Edition, taken: Taken, g: Registers, s: &[u8], out: &mut
 pub fn add_keystream(edition: Edition, taken: Taken, g: Registers, s: &[u8], out: &mut [u8])
     ensures { out.new ≡ with_keystream edition (spacing taken) (generator_of g) (take (length out.old) s.now) ++ drop (length (take (length out.old) s.now)) out.old }
 {
-    let room = out.len();
-    if s.len() <= room {
-        add_fitting(edition, taken, g, s, out);
-    } else {
-        add_fitting(edition, taken, g, &s[..room], out);
-    }
+    add_fitting(edition, taken, g, &s[..s.len().min(out.len())], out);
 }

@@ -1,9 +1,10 @@
 -- `captures::frames` meets its contract.
-use Rattle.std.proofs.Common.{sym, ◌∙◌}
+use Rattle.std.proofs.Common.{◌≡◌, rules, ap, ◌∙◌}
 use Rattle.captures.specs.Walk.{walk_capture}
-use Rattle.captures.proofs.Seeking.{count-sound}
+use Rattle.captures.proofs.Seeking.{frames_told, counts}
 use Rattle.captures.proofs.frames.Goals as goal
 
 pub returns : goal.returns
 returns c =
-    count-sound 0 (walk_capture c.args.capture.now) _ (sym c.in_ok-t.was ∙ c.capture.ensures)
+    let told : c.map.result ≡ frames_told c.capture.result = search rules in
+    told ∙ ap frames_told c.capture.ensures ∙ counts 0 (walk_capture c.args.capture.now)

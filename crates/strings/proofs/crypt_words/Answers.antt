@@ -1,25 +1,37 @@
 -- `strings::crypt_words` meets its contract.
-use mathlib.Core.Path.{◌≡◌}
-use Prim.Native.Nat.{◌*◌, ◌/◌}
-use native.Mathlib.Omega.{arith}
-use lib.ListN.{length, drop}
+use mathlib.Core.Path.{refl}
+use Prim.Native.Nat.{◌*◌}
+use lib.ListN.{drop}
+use Rattle.std.specs.Iterator.Adapters.{enumerate_count}
 use Rattle.strings.proofs.OverBytes.{more_word}
+use Rattle.strings.proofs.Words.{fours_begun, fours_over, four_off, fours_on, four_spelled}
 use Rattle.strings.proofs.Writing.{crypts-none, crypts_piece, crypts-pieces}
 use Rattle.strings.proofs.crypt_words.Goals as goal
 
 pub loop-i-init : goal.loop-i-init
-loop-i-init c = crypts-none _ _ _ _ _
+loop-i-init c =
+    rw (c.into_iter-i-iterator.ensures.into_iter_gives, c.enumerate-i-items.ensures.source, c.enumerate-i-items.ensures.count)
+    (record {
+      left = fours_begun _ _ c.chunks_exact.ensures.size c.chunks_exact.ensures.rest refl;
+      crypts = crypts-none _ _ _ _ _;
+    })
 
 pub loop-i-preserved : goal.loop-i-preserved
 loop-i-preserved c =
     let l = c.loop-i in
+    let step = c.in-Some.ensures.steps in
+    let e = c.args.edition in
     let s = c.args.s.now in
-    let at = l.i * 4 in
-    let piece = crypts_piece c.args.edition s at 4 c.word_at.result (omega arith) c.word_at.ensures (drop at l.out) c.crypt_word-c.ensures in
-    crypts-pieces c.args.edition (more_word s l.i (omega arith)) l.invariant piece c.put.ensures
+    let n = enumerate_count l.i-iterator in
+    let four = four_off l.invariant.left c.next.new.self c.in-Some.four.now step.0.1.0 step.0.1.1 in
+    let w = c.ordered.result in
+    let piece = crypts_piece e s (n * 4) 4 w four.inside (four_spelled e c.number.result w four c.number.ensures c.ordered.ensures) (drop (n * 4) l.out) c.crypt_word-c.ensures in
+    record {
+      left = fours_on l.invariant.left c.next.new.self c.in-Some.four.now step.0.1.0 step.0.1.1 step.0.0 step.2;
+      crypts = rw step.2 (crypts-pieces e (more_word s n l.invariant.left.inside) l.invariant.crypts piece (rw step.1 at c.put.ensures));
+    }
 
 pub returns : goal.returns
 returns c =
-    let l = c.loop-i in
-    let done : l.i ≡ length c.args.s.now / 4 = omega arith in
-    rw done at l.invariant
+    let inv = c.loop-i.invariant in
+    rw (fours_over inv.left c.in-None.ensures.steps.0.1.0) at inv.crypts

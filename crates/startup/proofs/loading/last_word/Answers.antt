@@ -12,4 +12,4 @@ returns c =
     let a = c.args in
     let n = a.nonce.now in
     word_four a.edition (take 4 (drop 8 n)) c.number.result c.ordered.result 0xffff_fffe
-    (omega (arith, length-take 4 (drop 8 n), length-drop 8 n, c.requires)) (lit< tt) c.number.ensures c.ordered.ensures
+    (omega (arith, length-take 4 (drop 8 n), length-drop 8 n)) (lit< tt) c.number.ensures c.ordered.ensures
