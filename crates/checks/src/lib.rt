@@ -1,5 +1,5 @@
 // The rows before the tag's of sealing and opening, tried in their order.
-#![tactic(auto)]
+#![tactic(auto, unfolding(crate::specs::Order::before_tag, crate::specs::Rows::table, refusals::specs::Refusals::among, refusals::specs::Refusals::check))]
 
 ghost use Rattle.std.specs.Prelude.{◌≡◌, false};
 ghost use Rattle.refusals.specs.Refusals as refusals;
@@ -20,12 +20,13 @@ pub fn judge(
 ) -> Result<(), Refusal>
     ensures { result ≡ refusals.check before_tag (rows limit key.now nonce.now ad.now too_long too_short no_room false) }
 {
-    let blank = key::is_blank(key);
-    let c = refusals::after(Ok(()), Refusal::KeySize, key.len() != 16);
-    let c = refusals::after(c, Refusal::NonceSize, nonce.len() != 12);
-    let c = refusals::after(c, Refusal::BlankKey, blank);
-    let c = refusals::after(c, Refusal::AdTooLong, limit < ad.len());
-    let c = refusals::after(c, Refusal::MessageTooLong, too_long);
-    let c = refusals::after(c, Refusal::SealedTooShort, too_short);
-    refusals::after(c, Refusal::OutputTooShort, no_room)
+    refusals::first(&[
+        (Refusal::KeySize, key.len() != 16),
+        (Refusal::NonceSize, nonce.len() != 12),
+        (Refusal::BlankKey, key::is_blank(key)),
+        (Refusal::AdTooLong, limit < ad.len()),
+        (Refusal::MessageTooLong, too_long),
+        (Refusal::SealedTooShort, too_short),
+        (Refusal::OutputTooShort, no_room),
+    ])
 }

@@ -1,5 +1,5 @@
 // The rows of making and of reading a frame, tried in their order.
-#![tactic(auto)]
+#![tactic(auto, unfolding(crate::specs::Order::before_tag, crate::specs::Order::common, crate::specs::Order::making, crate::specs::Rows::common_rows, crate::specs::Rows::making_rows, crate::specs::Rows::reading_rows, refusals::specs::Refusals::among, refusals::specs::Refusals::check))]
 
 pub mod layout;
 
@@ -15,11 +15,12 @@ use refusals::Refusal;
 pub fn judge_common(key: &[u8], nonce: &[u8], identifier: u32) -> Result<(), Refusal>
     ensures { result ≡ refusals.check order.common (among (common_rows key.now nonce.now identifier)) }
 {
-    let blank = key::is_blank(key);
-    let c = refusals::after(Ok(()), Refusal::KeySize, key.len() != 16);
-    let c = refusals::after(c, Refusal::NonceSize, nonce.len() != 12);
-    let c = refusals::after(c, Refusal::BlankKey, blank);
-    refusals::after(c, Refusal::IdentifierTooLarge, identifier >= 0x2000_0000)
+    refusals::first(&[
+        (Refusal::KeySize, key.len() != 16),
+        (Refusal::NonceSize, nonce.len() != 12),
+        (Refusal::BlankKey, key::is_blank(key)),
+        (Refusal::IdentifierTooLarge, identifier >= 0x2000_0000),
+    ])
 }
 
 // The first row of making that applies, for an output of so many bytes.
@@ -32,11 +33,11 @@ pub fn judge_making(
 ) -> Result<(), Refusal>
     ensures { result ≡ refusals.check order.making (among (making_rows key.now nonce.now identifier (length message.now) room)) }
 {
-    let too_long = 55 < message.len();
-    let short = room < layout::field_size(message);
-    let c = judge_common(key, nonce, identifier);
-    let c = refusals::after(c, Refusal::FrameMessageTooLong, too_long);
-    refusals::after(c, Refusal::OutputTooShort, short)
+    judge_common(key, nonce, identifier)?;
+    refusals::first(&[
+        (Refusal::FrameMessageTooLong, 55 < message.len()),
+        (Refusal::OutputTooShort, room < layout::field_size(message)),
+    ])
 }
 
 // The first row of reading before the tag's that applies, for an output of so many bytes.
@@ -50,13 +51,15 @@ pub fn judge_reading(
 ) -> Result<(), Refusal>
     ensures { result ≡ refusals.check order.before_tag (among (reading_rows key.now nonce.now identifier code field.now room false)) }
 {
+    judge_common(key, nonce, identifier)?;
     let not_coded = layout::not_coded(code, field);
     let wrong_length = layout::wrong_length(code, field);
     let not_zero = layout::filler_not_zero(field);
     let no_room = room < layout::announced(field) as usize;
-    let c = judge_common(key, nonce, identifier);
-    let c = refusals::after(c, Refusal::NotCodedLength, not_coded);
-    let c = refusals::after(c, Refusal::WrongMessageLength, wrong_length);
-    let c = refusals::after(c, Refusal::FillerNotZero, not_zero);
-    refusals::after(c, Refusal::OutputTooShort, no_room)
+    refusals::first(&[
+        (Refusal::NotCodedLength, not_coded),
+        (Refusal::WrongMessageLength, wrong_length),
+        (Refusal::FillerNotZero, not_zero),
+        (Refusal::OutputTooShort, no_room),
+    ])
 }

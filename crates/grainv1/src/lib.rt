@@ -23,13 +23,16 @@ use limits::MESSAGE_LIMIT;
 use refusals::Refusal;
 
 // The first row that applies.
+#[tactic(auto, unfolding(crate::specs::Rows::order, crate::specs::Rows::rows, limits::specs::Limits::message_limit, refusals::specs::Refusals::among, refusals::specs::Refusals::check))]
 fn judge(key: &[u8], nonce: &[u8], message: &[u8], out: &[u8]) -> Result<(), Refusal>
     ensures { result ≡ refusals.check order (among (rows key.now nonce.now message.now out.now)) }
 {
-    let c = refusals::after(Ok(()), Refusal::KeySize, key.len() != 10);
-    let c = refusals::after(c, Refusal::NonceSize, nonce.len() != 8);
-    let c = refusals::after(c, Refusal::MessageTooLong, MESSAGE_LIMIT < message.len());
-    refusals::after(c, Refusal::OutputTooShort, out.len() < message.len())
+    refusals::first(&[
+        (Refusal::KeySize, key.len() != 10),
+        (Refusal::NonceSize, nonce.len() != 8),
+        (Refusal::MessageTooLong, MESSAGE_LIMIT < message.len()),
+        (Refusal::OutputTooShort, out.len() < message.len()),
+    ])
 }
 
 // The registers after start-up, from the bytes of key and nonce.

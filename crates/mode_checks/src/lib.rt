@@ -1,5 +1,5 @@
 // The rows before the tag's of Grain-128a's calls, tried in their order.
-#![tactic(auto)]
+#![tactic(auto, unfolding(crate::specs::Order::before_tag, crate::specs::Order::common, crate::specs::Order::unauthenticated, crate::specs::Rows::authenticated_rows, crate::specs::Rows::common_rows, crate::specs::Rows::unauthenticated_rows, refusals::specs::Refusals::among, refusals::specs::Refusals::check))]
 
 ghost use Rattle.std.specs.Prelude.{◌≡◌, false};
 ghost use Rattle.refusals.specs.Refusals.{among};
@@ -21,12 +21,12 @@ fn mode_bit(nonce: &[u8]) -> bool
 fn judge_common(key: &[u8], nonce: &[u8], mode: bool) -> Result<(), Refusal>
     ensures { result ≡ refusals.check order.common (among (common_rows key.now nonce.now «mode»)) }
 {
-    let blank = key::is_blank(key);
-    let other_mode = mode ^ mode_bit(nonce);
-    let c = refusals::after(Ok(()), Refusal::KeySize, key.len() != 16);
-    let c = refusals::after(c, Refusal::NonceSize, nonce.len() != 12);
-    let c = refusals::after(c, Refusal::BlankKey, blank);
-    refusals::after(c, Refusal::NonceMode, other_mode)
+    refusals::first(&[
+        (Refusal::KeySize, key.len() != 16),
+        (Refusal::NonceSize, nonce.len() != 12),
+        (Refusal::BlankKey, key::is_blank(key)),
+        (Refusal::NonceMode, mode ^ mode_bit(nonce)),
+    ])
 }
 
 // The first row before the tag's that applies, with a tag of so many bits. Whether rows 4 to 6 apply is the caller's to say.
@@ -41,11 +41,13 @@ pub fn judge_authenticated(
     ensures { result ≡ refusals.check order.before_tag (among (authenticated_rows key.now nonce.now tag_bits too_long too_short no_room false)) }
 {
     let legal = (1 <= tag_bits) & (tag_bits <= 32);
-    let c = judge_common(key, nonce, true);
-    let c = refusals::after(c, Refusal::TagLength, !legal);
-    let c = refusals::after(c, Refusal::MessageTooLong, too_long);
-    let c = refusals::after(c, Refusal::SealedTooShort, too_short);
-    refusals::after(c, Refusal::OutputTooShort, no_room)
+    judge_common(key, nonce, true)?;
+    refusals::first(&[
+        (Refusal::TagLength, !legal),
+        (Refusal::MessageTooLong, too_long),
+        (Refusal::SealedTooShort, too_short),
+        (Refusal::OutputTooShort, no_room),
+    ])
 }
 
 // The first row that applies without a tag.
@@ -57,7 +59,9 @@ pub fn judge_unauthenticated(
 ) -> Result<(), Refusal>
     ensures { result ≡ refusals.check order.unauthenticated (among (unauthenticated_rows key.now nonce.now too_long no_room)) }
 {
-    let c = judge_common(key, nonce, false);
-    let c = refusals::after(c, Refusal::MessageTooLong, too_long);
-    refusals::after(c, Refusal::OutputTooShort, no_room)
+    judge_common(key, nonce, false)?;
+    refusals::first(&[
+        (Refusal::MessageTooLong, too_long),
+        (Refusal::OutputTooShort, no_room),
+    ])
 }

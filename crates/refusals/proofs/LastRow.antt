@@ -6,7 +6,7 @@ use mathlib.Core.List.{List, [], ◌∷◌, ◌++◌, foldl-append}
 use Prim.Native.Nat.{ℕ}
 use Rattle.refusals.specs.declared.Refusal.{Refusal}
 use Rattle.std.specs.Prelude.{Ok, Err}
-use Rattle.refusals.specs.Refusals.{after, check, passed, Check}
+use Rattle.refusals.specs.Refusals.{after, tried, check, passed, Check}
 use Rattle.refusals.specs.Outcome.{Outcome, outcome, settled, refused, success}
 use Rattle.refusals.specs.Demand1.{Accepts}
 use Rattle.refusals.proofs.Demand1.{passed_not_failed, count-not-refused}
@@ -39,6 +39,16 @@ pub check-last : (rs : List Refusal) (r : Refusal) (applies : Refusal → Bool) 
 check-last rs r applies =
     sym (check-in_order applies (rs ++ (r ∷ []))) ∙ foldl-append _ passed rs (r ∷ [])
     ∙ ap (λ (c : Check). after c r (applies r)) (check-in_order applies rs)
+
+-- One more row behind others is tried after what these come to.
+pub tried-last : (rows : List (Refusal × Bool)) (r : Refusal) (applies : Bool) → tried (rows ++ ((r, applies) ∷ [])) ≡ after (tried rows) r applies
+tried-last [] r applies = refl
+tried-last (row ∷ rows) r applies = go row.1 (tried-last rows r applies)
+  where
+    go : (b : Bool) → tried (rows ++ ((r, applies) ∷ [])) ≡ after (tried rows) r applies
+        → cond b (Err row.0) (tried (rows ++ ((r, applies) ∷ []))) ≡ after (cond b (Err row.0) (tried rows)) r applies
+    go true e = refl
+    go false e = e
 
 pub settled-last : (r : Refusal) (applies : Bool) (written out : List ℕ) → settled (after passed r applies) written out ≡ cond applies (refused r out) (success written out)
 unfolding settled

@@ -3,14 +3,17 @@
 use mathlib.Core.Path.{◌≡◌, refl, sym, ap, ◌∙◌}
 use mathlib.Core.Logic.{◌⊎◌, inl, inr, ⊎_elim}
 use mathlib.Core.Bool.{Bool, true, false, cond}
-use mathlib.Core.List.{List, [], ◌∷◌, map, foldl, Memᴰ}
+use mathlib.Core.List.{List, [], ◌∷◌, ◌++◌, map, foldl, Memᴰ}
 use Prim.Native.Nat.{ℕ}
 use borrow.Author.Tests.{eqb-true}
 use lib.Dec.{eqb}
 use Rattle.refusals.specs.declared.Refusal.{Refusal}
-use Rattle.std.specs.Prelude.{Err}
-use Rattle.refusals.specs.Refusals.{number, Row, among, after, check, passed, Check}
+use Rattle.std.specs.Prelude.{Err, Some}
+use Rattle.std.specs.List.{find}
+use Rattle.std.specs.Option.{option_map_or}
+use Rattle.refusals.specs.Refusals.{number, Row, among, after, tried, check, passed, Check}
 use Rattle.refusals.specs.Demand1.{NoOther}
+use Rattle.refusals.proofs.Demand1.{passed_not_failed}
 
 -- The rows of a list tried in turn, after some others.
 abbrev pub in_order : (applies : Refusal → Bool) → Check → List Refusal → Check
@@ -28,6 +31,27 @@ check-in_order applies (r ∷ rs) = go (applies r) (check-in_order applies rs)
     go : (b : Bool) → in_order applies passed rs ≡ check rs applies → in_order applies (cond b (Err r) passed) rs ≡ cond b (Err r) (check rs applies)
     go true e = failed_stays applies r rs
     go false e = e
+
+-- The first row that applies, as it is found, is what the rows come to.
+pub tried_found : (rows : List (Refusal × Bool)) → option_map_or (λ r. Err r.0) (find (λ r. r.1) rows) passed ≡ tried rows
+tried_found [] = refl
+tried_found (row ∷ rows) = go row.1 (tried_found rows)
+  where
+    go : (b : Bool) → option_map_or (λ r. Err r.0) (find (λ r. r.1) rows) passed ≡ tried rows
+        → option_map_or (λ r. Err r.0) (cond b (Some row) (find (λ r. r.1) rows)) passed ≡ cond b (Err row.0) (tried rows)
+    go true e = refl
+    go false e = e
+
+-- Where a row of some refusals applies, those behind them are not tried.
+pub failed_front : (applies : Refusal → Bool) (later rs : List Refusal) {r : Refusal} → check rs applies ≡ Err r → check (rs ++ later) applies ≡ Err r
+unfolding check
+failed_front applies later [] e = absurd (passed_not_failed refl e)
+failed_front applies later (q ∷ rs) {r} e = go (applies q) (failed_front applies later rs) e
+  where
+    go : (b : Bool) → (check rs applies ≡ Err r → check (rs ++ later) applies ≡ Err r)
+        → cond b (Err q) (check rs applies) ≡ Err r → cond b (Err q) (check (rs ++ later) applies) ≡ Err r
+    go true rest e = e
+    go false rest e = rest e
 
 -- No refusal's row applies: of no rows, and of one row more that does not.
 abbrev pub Quiet : List Row → Type 0

@@ -59,6 +59,11 @@ abbrev pub after : Check → Refusal → (applies : Bool) → Check
 after (Ok u) r applies = cond applies (Err r) passed
 after (Err q) r applies = Err q
 
+-- What some rows come to, tried one after the other: the first that applies.
+abbrev pub tried : List (Refusal × Bool) → Check
+tried [] = passed
+tried (row ∷ rows) = cond row.1 (Err row.0) (tried rows)
+
 -- The first refusal of a list whose row applies. Each call has a list of its own, its order.
 unfoldable pub check : List Refusal → (applies : Refusal → Bool) → Check
 check [] applies = passed

@@ -40,12 +40,13 @@ pub fn number(r: Refusal) -> u8
     r as u8
 }
 
-// What some rows come to when one more is tried after them: the first that applies is the answer.
-pub fn after(rows: Result<(), Refusal>, r: Refusal, applies: bool) -> Result<(), Refusal>
-    ensures { result ≡ refusals.after «rows» r «applies» }
+// The first of some rows that applies is the answer.
+pub fn first(rows: &[(Refusal, bool)]) -> Result<(), Refusal>
+    ensures { result ≡ refusals.tried rows.now }
 {
-    rows?;
-    if applies { Err(r) } else { Ok(()) }
+    rows.iter()
+        .find(|row| row.1)
+        .map_or(Ok(()), |row| Err(row.0))
 }
 
 // The count, or minus the number of the refusal. A count past the largest signed number is that number.

@@ -1,5 +1,5 @@
 // The kinds and the counts of a stream, and the rows of its calls, tried in their order.
-#![tactic(auto)]
+#![tactic(auto, unfolding(crate::specs::Order::beginning, crate::specs::Order::before_tag, crate::specs::Rows::begin_rows, crate::specs::Rows::rows, refusals::specs::Refusals::among, refusals::specs::Refusals::check))]
 
 pub mod counts;
 
@@ -23,12 +23,14 @@ pub fn judge_begin(
 ) -> Result<(), Refusal>
     ensures { result ≡ refusals.check order.beginning (among (begin_rows unknown key.now nonce.now announced limit size)) }
 {
-    let c = refusals::after(Ok(()), Refusal::UnknownEdition, unknown);
-    let c = refusals::after(c, Refusal::KeySize, key.len() != 16);
-    let c = refusals::after(c, Refusal::NonceSize, nonce.len() != 12);
-    let c = refusals::after(c, Refusal::BlankKey, key::is_blank(key));
-    let c = refusals::after(c, Refusal::AdTooLong, limit < announced);
-    refusals::after(c, Refusal::UnsoundState, size != 64)
+    refusals::first(&[
+        (Refusal::UnknownEdition, unknown),
+        (Refusal::KeySize, key.len() != 16),
+        (Refusal::NonceSize, nonce.len() != 12),
+        (Refusal::BlankKey, key::is_blank(key)),
+        (Refusal::AdTooLong, limit < announced),
+        (Refusal::UnsoundState, size != 64),
+    ])
 }
 
 // The first of the rows before the tag's that applies, of a call on a sound state.
@@ -40,8 +42,10 @@ pub fn judge(
 ) -> Result<(), Refusal>
     ensures { result ≡ refusals.check order.before_tag (among (rows false out_of_turn too_long wrong_size no_room false)) }
 {
-    let c = refusals::after(Ok(()), Refusal::OutOfTurn, out_of_turn);
-    let c = refusals::after(c, Refusal::MessageTooLong, too_long);
-    let c = refusals::after(c, Refusal::SealedTooShort, wrong_size);
-    refusals::after(c, Refusal::OutputTooShort, no_room)
+    refusals::first(&[
+        (Refusal::OutOfTurn, out_of_turn),
+        (Refusal::MessageTooLong, too_long),
+        (Refusal::SealedTooShort, wrong_size),
+        (Refusal::OutputTooShort, no_room),
+    ])
 }
