@@ -1,6 +1,6 @@
 // What differs between the editions: the order of bits in a byte, the clocks before those that fill accumulator and register, what
 // these add, and the clock at which running starts.
-ghost use Rattle.std.specs.Prelude.{◌≡◌, ◌∷◌, []};
+ghost use Rattle.std.specs.Prelude.{◌≡◌, cond, Some, None, ◌∷◌, []};
 ghost use Rattle.bits.specs.Bytes.{word};
 ghost use Rattle.preoutput.specs.Words.{generator_of};
 ghost use Rattle.startup.specs.Editions as editions;
@@ -11,22 +11,31 @@ use crate::feeding;
 use machine::edition::Edition;
 use preoutput::Registers;
 
+// The edition that a number names, if it names one.
+#[tactic(auto, using(std::proofs::lemmas::Bool::Decides::nat_tests), unfolding(crate::specs::Naming::known, crate::specs::Naming::named))]
+pub fn by_number(n: u32) -> Option<Edition>
+    ensures { result ≡ cond (naming.known n) (Some (naming.named n)) None }
+{
+    match n {
+        1 => Some(Edition::First),
+        2 => Some(Edition::Second),
+        _ => None,
+    }
+}
+
 // Whether a number names an edition.
 pub fn known(n: u32) -> bool
     ensures { result ≡ naming.known n }
 {
-    n == 1 || n == 2
+    by_number(n).is_some()
 }
 
 // The edition that a number names.
+#[tactic(auto, using(std::proofs::lemmas::Bool::Decides::nat_tests), unfolding(crate::specs::Naming::known, crate::specs::Naming::named))]
 pub fn named(n: u32) -> Edition
     ensures { result ≡ naming.named n }
 {
-    if n == 2 {
-        Edition::Second
-    } else {
-        Edition::First
-    }
+    by_number(n).unwrap_or(Edition::First)
 }
 
 // The word whose bytes are those of `w` with their bits in the edition's order.
