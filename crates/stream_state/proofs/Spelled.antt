@@ -32,10 +32,9 @@ unfolding bytes
 low_bytes_lem zero w = refl
 low_bytes_lem (suc n) w = bytes-word-cons n w ∙ ap (λ (l : List ℕ). w / 2 ^ (8 * n) % 256 ∷ l) (low_bytes_lem n w)
 
-pub counts-bytes : (k p n a m : ℕ) → k < 256 → p < 256 → n < 65536 → a < 65536 → m < 65536
-    → bytes 8 (word 64 ((((k * 256 + p) * 65536 + n) * 65536 + a) * 65536 + m)) ≡ (k ∷ p ∷ []) ++ (two_bytes n ++ (two_bytes a ++ two_bytes m))
-counts-bytes k p n a m hk hp hn ha hm =
-    let w = (((k * 256 + p) * 65536 + n) * 65536 + a) * 65536 + m in
+pub counts-bytes : (k p n a m w : ℕ) → k < 256 → p < 256 → n < 65536 → a < 65536 → m < 65536 → w ≡ k * 2 ^ 56 + p * 2 ^ 48 + n * 2 ^ 32 + a * 2 ^ 16 + m
+    → bytes 8 (word 64 w) ≡ (k ∷ p ∷ []) ++ (two_bytes n ++ (two_bytes a ++ two_bytes m))
+counts-bytes k p n a m w hk hp hn ha hm e =
     let b7 : w / 2 ^ 56 % 256 ≡ k = omega arith in
     let b6 : w / 2 ^ 48 % 256 ≡ p = omega arith in
     let b5 : w / 2 ^ 40 % 256 ≡ n / 256 = omega arith in

@@ -27,15 +27,12 @@ pub fn read(limit: usize, state: &[u8]) -> Option<Session>
     ensures { held_of result ≡ held limit state.now }
 {
     let state = state.as_array::<64>()?;
-    let edition = state[56] as u32;
+    let edition = editions::by_number(state[56] as u32)?;
     let counts = reading::counts(state);
-    if !editions::known(edition)
-        || !counts::can_occur(limit, counts)
-        || !reading::spare_is_zero(state)
-    {
+    if !counts::can_occur(limit, counts) || !reading::spare_is_zero(state) {
         return None;
     }
-    let engine = reading::machine(editions::named(edition), state);
+    let engine = reading::machine(edition, state);
     Some(Session { engine, counts })
 }
 
@@ -43,7 +40,7 @@ pub fn read(limit: usize, state: &[u8]) -> Option<Session>
 pub fn write(x: Session, state: &mut [u8])
     ensures { state.new ≡ cond (eqb (length state.old) state_size) (written (stream_of x)) state.old }
 {
-    if state.len() == 64 {
+    if let Some(state) = state.as_mut_array::<64>() {
         let g = x.engine.registers;
         let t = x.engine.tagger;
         let words = [

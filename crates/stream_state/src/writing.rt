@@ -12,8 +12,10 @@ use stream_checks::counts::Counts;
 pub fn counts_word(c: Counts) -> u64
     ensures { bytes 8 (word 64 result) ≡ (c.kind ∷ c.phase ∷ []) ++ (two_bytes c.announced ++ (two_bytes c.ad ++ two_bytes c.message)) }
 {
-    let head = c.kind as u64 * 256 + c.phase as u64;
-    ((head * 0x1_0000 + c.announced as u64) * 0x1_0000 + c.ad as u64) * 0x1_0000 + c.message as u64
+    let [n1, n0] = c.announced.to_be_bytes();
+    let [a1, a0] = c.ad.to_be_bytes();
+    let [m1, m0] = c.message.to_be_bytes();
+    u64::from_be_bytes([c.kind, c.phase, n1, n0, a1, a0, m1, m0])
 }
 
 // The word whose bytes are the edition and the spare bytes.
