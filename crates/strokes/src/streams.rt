@@ -1,4 +1,5 @@
 // The pre-outputs of plain running, which are all keystream bits, or keystream and authentication bits by turns.
+ghost use Rattle.std.specs.Prelude.{◌≡◌};
 ghost use Rattle.preoutput.specs.Words.{generator_of};
 ghost use Rattle.strokes.specs.Streams.{Parted, Keystreams, Streams, spacing};
 
@@ -27,13 +28,23 @@ pub struct Keystreamed {
     pub keystream: u64,
 }
 
+impl From<Streamed> for Keystreamed {
+    ghost from_gives = { λ s k. k ≡ record { registers = s.registers; keystream = s.keystream } };
+
+    fn from(s: Streamed) -> Keystreamed {
+        Keystreamed {
+            registers: s.registers,
+            keystream: s.keystream,
+        }
+    }
+}
+
 fn parted(r: Run) -> Streamed
     ensures { Parted r result }
 {
     let both = bits::parting::part(r.outputs);
-    let registers = r.registers;
     Streamed {
-        registers,
+        registers: r.registers,
         keystream: both >> 32,
         authentication: both % 0x1_0000_0000,
     }
@@ -91,14 +102,7 @@ pub fn keystream_byte(g: Registers, taken: Taken) -> Keystreamed
             registers: stroke::stroke(g, 8, 0, 0),
             keystream: bits::slide(0, stroke::outputs(g) << 32, 8),
         },
-        Taken::EverySecond => {
-            let both = stream_byte(g);
-            let registers = both.registers;
-            Keystreamed {
-                registers,
-                keystream: both.keystream,
-            }
-        }
+        Taken::EverySecond => stream_byte(g).into(),
     }
 }
 
@@ -108,13 +112,6 @@ pub fn keystream_word(g: Registers, taken: Taken) -> Keystreamed
 {
     match taken {
         Taken::Every => preoutput_word(g),
-        Taken::EverySecond => {
-            let s = parted(two_strokes(g));
-            let registers = s.registers;
-            Keystreamed {
-                registers,
-                keystream: s.keystream,
-            }
-        }
+        Taken::EverySecond => parted(two_strokes(g)).into(),
     }
 }

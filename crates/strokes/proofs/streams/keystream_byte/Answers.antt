@@ -9,4 +9,4 @@ returns-in-Every c =
 
 pub returns-in-EverySecond : goal.returns-in-EverySecond
 returns-in-EverySecond c =
-    rw c.in-EverySecond.is c.stream_byte-both.ensures.keystreams
+    rw (c.in-EverySecond.is, c.into.ensures) c.stream_byte.ensures.keystreams

@@ -6,5 +6,5 @@ use Rattle.strokes.proofs.streams.keystream_word.Goals as goal
 
 pub returns-in-EverySecond : goal.returns-in-EverySecond
 returns-in-EverySecond c =
-    rw c.in-EverySecond.is
-    (streams 32 (generator_of c.args.g) c.two_strokes.result c.parted-s.result (omega arith) c.two_strokes.ensures c.parted-s.ensures).keystreams
+    rw (c.in-EverySecond.is, c.into.ensures)
+    (streams 32 (generator_of c.args.g) c.two_strokes.result c.parted.result (omega arith) c.two_strokes.ensures c.parted.ensures).keystreams
