@@ -1,8 +1,6 @@
 // The machine on words, one bit, one byte or four bytes of the string at a time.
 ghost use Rattle.std.specs.Prelude.{◌≡◌, true, ◌∷◌, []};
 ghost use Rattle.bits.specs.Bytes.{word, lowest};
-ghost use Rattle.preoutput.specs.Words.{generator_of};
-ghost use Rattle.strokes.specs.Streams.{Streams};
 ghost use Rattle.machine.specs.Machine.{run};
 ghost use Rattle.machine.specs.Engine.{state_of, Crypts};
 
@@ -10,7 +8,6 @@ use crate::edition::Edition;
 use authenticator::Tagger;
 use preoutput::{Registers, plain};
 use strokes::streams;
-use strokes::streams::Streamed;
 
 // The machine carries its edition along; no clock looks at it.
 #[derive(Clone, Copy)]
@@ -18,18 +15,6 @@ pub struct Engine {
     pub edition: Edition,
     pub registers: Registers,
     pub tagger: Tagger,
-}
-
-// The machine after a byte m of the string, from the byte's clocks.
-fn after(e: Engine, m: u8, s: Streamed) -> Engine
-    requires { Streams 8 (generator_of e.registers) s }
-    ensures { state_of result ≡ run (state_of e) (word 8 m) }
-{
-    Engine {
-        registers: s.registers,
-        tagger: authenticator::absorb_byte(e.tagger, bits::wide(m), s.authentication),
-        ..e
-    }
 }
 
 // The machine after a byte or a word of the string, and that with its keystream added.
@@ -47,7 +32,11 @@ pub fn crypt_byte(e: Engine, x: u8, sealing: bool) -> Crypted<u8>
     let text = x ^ ((s.keystream % 256) as u8);
     let m = if sealing { x } else { text };
     Crypted {
-        engine: after(e, m, s),
+        engine: Engine {
+            registers: s.registers,
+            tagger: authenticator::absorb_byte(e.tagger, bits::wide(m), s.authentication),
+            ..e
+        },
         text,
     }
 }
@@ -72,18 +61,6 @@ pub fn absorb_bit(e: Engine, m: u64) -> Engine
     }
 }
 
-// The machine after 32 bits of the string, the lowest of `m`, from their clocks.
-fn after_word(e: Engine, m: u64, s: Streamed) -> Engine
-    requires { Streams 32 (generator_of e.registers) s }
-    ensures { state_of result ≡ run (state_of e) (word 32 m) }
-{
-    Engine {
-        registers: s.registers,
-        tagger: authenticator::absorb_word(e.tagger, m, s.authentication),
-        ..e
-    }
-}
-
 // Thirty-two bits, the lowest of `x`: a message's when sealing, a ciphertext's when opening. The word that comes out has no others.
 pub fn crypt_word(e: Engine, x: u64, sealing: bool) -> Crypted<u64>
     ensures { Crypts 32 sealing (state_of e) x result.text result.engine }
@@ -92,7 +69,11 @@ pub fn crypt_word(e: Engine, x: u64, sealing: bool) -> Crypted<u64>
     let text = (x ^ s.keystream) % 0x1_0000_0000;
     let m = if sealing { x } else { text };
     Crypted {
-        engine: after_word(e, m, s),
+        engine: Engine {
+            registers: s.registers,
+            tagger: authenticator::absorb_word(e.tagger, m, s.authentication),
+            ..e
+        },
         text,
     }
 }

@@ -7,7 +7,7 @@ use lib.Bits.{bit_xor}
 use lib.Pow.{pow_pos}
 use Rattle.machine.specs.Machine.{run}
 use Rattle.machine.specs.Engine.{state_of}
-use Rattle.machine.proofs.Bitwise.{bits-keystream, bits-crypt, word_remainder, taken}
+use Rattle.machine.proofs.Bitwise.{bits-run, bits-keystream, bits-crypt, word_remainder, taken}
 use Rattle.machine.proofs.engine.crypt_word.Goals as goal
 use Rattle.machine.proofs.engine.crypt_word.Goals.{then-sealing, else-sealing}
 
@@ -19,7 +19,7 @@ returns c =
       small = mod-lt x (pow_pos 32);
       crypted = word_remainder 32 x ∙ bits-crypt 32 a.sealing a.e a.x c.stream_word-s.result.keystream (bits-keystream 32 (omega arith) c.stream_word-s.ensures.keystreams);
       engine =
-          c.after_word.ensures
+          bits-run 32 a.e _ c.stream_word-s.result c.absorb_word.result (omega arith) c.stream_word-s.ensures c.absorb_word.ensures
           ∙ ap (run (state_of a.e))
           (elim c.if-sealing.branch [
             | then-sealing w ↦ taken 32 a.sealing true a.x _ _ w.if-sealing.true w.m-is
