@@ -1,6 +1,6 @@
 -- Byte strings with keystream added, written to the front of an output one piece after the other.
 -- Assumes nothing.
-use mathlib.Core.Path.{◌≡◌, refl, sym, ap, ap₂, ◌∙◌}
+use mathlib.Core.Path.{◌≡◌, refl, sym, ap, ap₂, ◌∙◌, subst}
 use mathlib.Core.Bool.{Bool, true, false, cond}
 use mathlib.Core.List.{List, [], ◌++◌}
 use Prim.Native.Nat.{ℕ, ◌+◌, ◌*◌, ◌≤◌}
@@ -25,9 +25,10 @@ use Rattle.machine.specs.declared.edition.Edition.{Edition}
 use Rattle.machine.specs.declared.engine.Engine.{Engine}
 use Rattle.machine.specs.Engine.{state_of, Crypts}
 use Rattle.machine.specs.Machine.{State, run, crypt}
+use Rattle.machine.proofs.Machine.{run-edition}
 use Rattle.startup.specs.Editions.{bits_in, bytes_in, flip_in}
 use Rattle.startup.proofs.Order.{ordered-none, length-bits_in, flip_in-bytes, flipping}
-use Rattle.strings.specs.Strings.{CryptsAll, with_keystream, Adds}
+use Rattle.strings.specs.Strings.{CryptsAll, Continues, with_keystream, Adds}
 use Rattle.strings.proofs.OverBytes.{through, through-append, through-clocked, over_pieces, crypts-through}
 use Rattle.strings.proofs.ByteStrings.{crypted-bytes}
 
@@ -88,6 +89,13 @@ module _ (e : Edition) (s : List ℕ) (i k x : ℕ) (inside : i + k ≤ length s
         ∙ ap (λ (n : ℕ). bytes_in e n (crypt sealing st (bits_in e (take k (drop i s)))) ++ drop n lent) long;
     engine = crypts-through c spelled;
   }
+
+-- The first part gone over, and the rest by the machine that it left, which has kept its edition.
+pub crypts-on : (e a r : Engine) {writes sealing : Bool} {s whole lent mid out : List ℕ} → CryptsAll e.edition writes sealing (state_of e) s lent mid a
+    → Continues a.edition writes sealing a r s whole mid out → CryptsAll e.edition writes sealing (state_of e) whole lent out r
+unfolding state_of
+crypts-on e a r {writes} {sealing} {s} {whole} {lent} {mid} {out} first rest =
+    subst (λ (edition : Edition). Continues edition writes sealing a r s whole mid out) (ap (λ (st : State). st.edition) first.engine ∙ run-edition (state_of e) _) rest (state_of e) lent first
 
 -- Nothing has been gone over before the first piece.
 pub crypts-none : (e : Edition) (writes sealing : Bool) (a : Engine) (lent : List ℕ) → CryptsAll e writes sealing (state_of a) [] lent lent a

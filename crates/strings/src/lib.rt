@@ -2,7 +2,6 @@
 #![tactic(auto)]
 
 ghost use Rattle.std.specs.Prelude.{◌≡◌, true, cond, ◌∷◌, [], ◌++◌, ◌+◌, ◌*◌, ◌/◌, ◌≤◌, length, take, drop};
-ghost use Rattle.bits.specs.Bytes.{word};
 ghost use Rattle.preoutput.specs.Words.{generator_of};
 ghost use Rattle.strokes.specs.Streams.{spacing};
 ghost use Rattle.machine.specs.Machine.{run, decipher};
@@ -18,15 +17,6 @@ use startup::editions;
 use strokes::streams;
 use strokes::streams::Taken;
 
-// Four bytes as a word.
-fn word_at(edition: Edition, s: &[u8], at: usize) -> u64
-    requires { at + 4 ≤ length s.now }
-    ensures { word 32 result ≡ bits_in edition (take 4 (drop at s.now)) }
-{
-    let end = at + 4;
-    editions::ordered(edition, bits::number(&s[at..end]))
-}
-
 // Writes the n lowest bytes of a word from place `at` on, or nothing.
 fn put(edition: Edition, out: &mut [u8], at: usize, n: usize, w: u64, writes: bool)
     requires { (n ≤ 8) × Room writes (at + n) out.old }
@@ -39,21 +29,18 @@ fn put(edition: Edition, out: &mut [u8], at: usize, n: usize, w: u64, writes: bo
 }
 
 // The whole words of a string, enciphered or deciphered; they are written to the front of the output, or not.
-fn crypt_words(
-    edition: Edition,
-    e: Engine,
-    s: &[u8],
-    out: &mut [u8],
-    sealing: bool,
-    writes: bool,
-) -> Engine
+fn crypt_words(e: Engine, s: &[u8], out: &mut [u8], sealing: bool, writes: bool) -> Engine
     requires { Room writes (length s.now) out.old }
-    ensures { CryptsAll edition writes sealing (state_of e) (take (length s.now / 4 * 4) s.now) out.old out.new result }
+    ensures { CryptsAll e.edition writes sealing (state_of e) (take (length s.now / 4 * 4) s.now) out.old out.new result }
 {
     let mut now = e;
     for (i, four) in s.chunks_exact(4).enumerate() {
-        let c = engine::crypt_word(now, editions::ordered(edition, bits::number(four)), sealing);
-        put(edition, out, i * 4, 4, c.text, writes);
+        let c = engine::crypt_word(
+            now,
+            editions::ordered(e.edition, bits::number(four)),
+            sealing,
+        );
+        put(e.edition, out, i * 4, 4, c.text, writes);
         now = c.engine;
     }
     now
@@ -61,7 +48,6 @@ fn crypt_words(
 
 // The bytes from place `from` on, behind those before it.
 fn crypt_rest(
-    edition: Edition,
     e: Engine,
     s: &[u8],
     from: usize,
@@ -70,12 +56,12 @@ fn crypt_rest(
     writes: bool,
 ) -> Engine
     requires { (from ≤ length s.now) × Room writes (length s.now) out.old }
-    ensures { Continues edition writes sealing e result (take from s.now) s.now out.old out.new }
+    ensures { Continues e.edition writes sealing e result (take from s.now) s.now out.old out.new }
 {
     let mut now = e;
     for (i, &byte) in s[from..].iter().enumerate() {
-        let c = engine::crypt_byte(now, editions::ordered_byte(edition, byte), sealing);
-        put(edition, out, from + i, 1, bits::wide(c.text), writes);
+        let c = engine::crypt_byte(now, editions::ordered_byte(e.edition, byte), sealing);
+        put(e.edition, out, from + i, 1, bits::wide(c.text), writes);
         now = c.engine;
     }
     now
@@ -86,8 +72,8 @@ fn crypt(e: Engine, s: &[u8], out: &mut [u8], sealing: bool, writes: bool) -> En
     requires { Room writes (length s.now) out.old }
     ensures { CryptsAll e.edition writes sealing (state_of e) s.now out.old out.new result }
 {
-    let words = crypt_words(e.edition, e, s, out, sealing, writes);
-    crypt_rest(e.edition, words, s, s.len() / 4 * 4, out, sealing, writes)
+    let words = crypt_words(e, s, out, sealing, writes);
+    crypt_rest(words, s, s.len() / 4 * 4, out, sealing, writes)
 }
 
 // A byte whose keystream is dropped.
@@ -127,14 +113,8 @@ fn add_words(edition: Edition, taken: Taken, g: Registers, s: &[u8], out: &mut [
     for i in 0..s.len() / 4 {
         let at = i * 4;
         let k = streams::keystream_word(now, taken);
-        put(
-            edition,
-            out,
-            at,
-            4,
-            word_at(edition, s, at) ^ k.keystream,
-            true,
-        );
+        let x = editions::ordered(edition, bits::number(&s[at..at + 4]));
+        put(edition, out, at, 4, x ^ k.keystream, true);
         now = k.registers;
     }
     now

@@ -18,7 +18,7 @@ loop-i-preserved c =
     let s = a.s.now in
     let i = a.from + l.i in
     let its = byte_piece (drop a.from s) l.i (omega (arith, length-drop a.from s, c.loop-i-test.true)) ∙ ap (take 1) (drop-drop l.i a.from s) in
-    let byte = rw (part_to_end s _) at c.ordered_byte.ensures ∙ ap (bits_in a.edition) its in
-    let piece = crypts_piece a.edition s i 1 c.ordered_byte.result (omega arith) byte (drop i l.out) c.crypt_byte-c.ensures in
+    let byte = rw (part_to_end s _) at c.ordered_byte.ensures ∙ ap (bits_in a.e.edition) its in
+    let piece = crypts_piece a.e.edition s i 1 c.ordered_byte.result (omega arith) byte (drop i l.out) c.crypt_byte-c.ensures in
     let next : a.from + (l.i + 1) ≡ i + 1 = omega arith in
-    λ st lent h. rw next (crypts-pieces a.edition (more s i 1 (omega arith)) (l.invariant st lent h) piece (rw c.wide.ensures at c.put.ensures))
+    λ st lent h. rw next (crypts-pieces a.e.edition (more s i 1 (omega arith)) (l.invariant st lent h) piece (rw c.wide.ensures at c.put.ensures))

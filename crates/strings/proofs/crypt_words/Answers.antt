@@ -20,7 +20,7 @@ pub loop-i-preserved : goal.loop-i-preserved
 loop-i-preserved c =
     let l = c.loop-i in
     let step = c.in-Some.ensures.steps in
-    let e = c.args.edition in
+    let e = c.args.e.edition in
     let s = c.args.s.now in
     let n = enumerate_count l.i-iterator in
     let four = four_off l.invariant.left c.next.new.self c.in-Some.four.now step.0.1.0 step.0.1.1 in

@@ -10,5 +10,5 @@ use Rattle.strings.proofs.crypt_words.Given as goal
 abbrev pub invariant-loop-i : goal.invariant-loop-i
 invariant-loop-i l = record {
   left : Fours l.s l.i-iterator;
-  crypts : CryptsAll l.edition l.writes l.sealing (state_of l.initial.now) (take (enumerate_count l.i-iterator * 4) l.s) l.initial.out l.out l.now;
+  crypts : CryptsAll l.e.edition l.writes l.sealing (state_of l.initial.now) (take (enumerate_count l.i-iterator * 4) l.s) l.initial.out l.out l.now;
 }
