@@ -1,19 +1,19 @@
 -- The frame that is sought, among those that are counted, and what the calls answer by it.
 -- Assumes nothing.
-use Rattle.std.proofs.Common.{◌≡◌, ℕ, suc, ◌+◌, ◌-◌, ◌<◌, ◌≤◌, List, [], ◌∷◌, length, sym, refl, ap, ◌∙◌, zero-add, arith, eq-eqb, ne_eqb}
+use Rattle.std.proofs.Common.{◌≡◌, ℕ, suc, ◌+◌, ◌-◌, ◌<◌, ◌≤◌, List, [], ◌∷◌, length, refl, ap, ◌∙◌, zero-add, arith, eq-eqb, ne_eqb}
 use native.Mathlib.Nat.{sub-zero}
 use native.Mathlib.Decide.{ℕ_discrete}
 use Rattle.refusals.specs.declared.Refusal.TheVariants.{PastLastFrame}
 use Rattle.refusals.specs.Refusals.{Answer}
-use Rattle.std.specs.Prelude.{Ok, Err}
+use Rattle.std.specs.Prelude.{Ok, Err, None}
+use Rattle.std.specs.Option.{ok_or}
 use Rattle.captures.specs.declared.Part.{Part}
 use Rattle.captures.specs.declared.walk.Tally.{Tally}
-use Rattle.captures.specs.Answers.{Tallied}
+use Rattle.captures.specs.Answers.{Found, Tallied}
 use Rattle.captures.specs.Content.{frames_of}
 use Rattle.captures.specs.Walk.{Walked, broken, sound}
 use Rattle.captures.specs.Tallies.{counted, counted_all, tallied, nothing}
 use Rattle.captures.specs.Calls.{numbered, count_of, found_in}
-use Rattle.captures.proofs.Numbered.{numbered-past}
 use Rattle.captures.proofs.Tallying.{frames-counted}
 
 -- Once it is passed, it stays.
@@ -22,22 +22,20 @@ unfolding counted_all
 passed sought t [] h = refl
 passed sought t (p ∷ ps) h = passed sought (counted sought t p) ps (omega arith) ∙ simp (ne_eqb t.frames sought (λ e. omega arith))
 
-ahead : (sought : ℕ) (t : Tally) (ps : List Part) → t.frames ≤ sought → sought < t.frames + length ps
-    → numbered ps (sought - t.frames) ≡ Ok (counted_all sought t ps).found
+-- Until it is reached, it is the one with its number among those that follow.
+ahead : (sought : ℕ) (t : Tally) (ps : List Part) → t.found ≡ None → t.frames ≤ sought
+    → ok_or (counted_all sought t ps).found PastLastFrame ≡ numbered ps (sought - t.frames)
 unfolding counted_all numbered
-ahead sought t [] h less = absurd (omega arith)
-ahead sought t (p ∷ ps) h less =
+ahead sought t [] none h = rw none refl
+ahead sought t (p ∷ ps) none h =
     elim (ℕ_discrete t.frames sought) [
       | yes same ↦
-          let none : sought - t.frames ≡ 0 = omega arith in
-          rw none (ap Ok (sym (passed sought (counted sought t p) ps (omega arith) ∙ simp (eq-eqb t.frames sought same))))
+          let first : sought - t.frames ≡ 0 = omega arith in
+          rw (first, passed sought (counted sought t p) ps (omega arith), eq-eqb t.frames sought same) refl
       | no other ↦
           let more : sought - t.frames ≡ suc (sought - (t.frames + 1)) = omega arith in
-          rw more (ahead sought (counted sought t p) ps (omega arith) (omega arith))
+          rw more (ahead sought (counted sought t p) ps (rw (ne_eqb t.frames sought other) none) (omega arith))
     ]
-
-sought_found : (sought : ℕ) (ps : List Part) → sought < length ps → numbered ps sought ≡ Ok (counted_all sought nothing ps).found
-sought_found sought ps h = ap (numbered ps) (sym (sub-zero sought)) ∙ ahead sought nothing ps (omega arith) (omega arith)
 
 -- The count of frames in a tally, or the refusal.
 abbrev pub frames_told : Tallied → Answer
@@ -48,17 +46,11 @@ pub counts : (sought : ℕ) (w : Walked) → frames_told (tallied sought nothing
 counts sought (broken q) = refl
 counts sought (sound c) = ap Ok (frames-counted sought nothing (frames_of 0 c) ∙ zero-add (length (frames_of 0 c)))
 
--- What a walk with a tally tells of the answers.
-module _ (sought : ℕ) (w : Walked) where
-  pub found-sound : (t : Tally) → Ok t ≡ tallied sought nothing 0 w → (sought < t.frames → Ok t.found ≡ found_in w sought) × (t.frames ≤ sought → Err PastLastFrame ≡ found_in w sought)
-  found-sound t = go w
-    where
-      go : (w : Walked) → Ok t ≡ tallied sought nothing 0 w → (sought < t.frames → Ok t.found ≡ found_in w sought) × (t.frames ≤ sought → Err PastLastFrame ≡ found_in w sought)
-      go (broken q) e = let z : ◌≡◌ {A = ℕ} 0 1 = cc in absurd (omega arith)
-      go (sound c) e =
-          let ps = frames_of 0 c in
-          let same : t ≡ counted_all sought nothing ps = cc in
-          rw same (
-            (λ less. sym (sought_found sought ps (omega (arith, frames-counted sought nothing ps)))),
-            (λ past. sym (numbered-past ps sought (omega (arith, frames-counted sought nothing ps)))),
-          )
+-- The frame in a tally, or the refusal.
+abbrev pub frame_told : Tallied → Found
+frame_told (Ok t) = ok_or t.found PastLastFrame
+frame_told (Err r) = Err r
+
+pub finds : (sought : ℕ) (w : Walked) → frame_told (tallied sought nothing 0 w) ≡ found_in w sought
+finds sought (broken q) = refl
+finds sought (sound c) = ahead sought nothing (frames_of 0 c) refl (omega arith) ∙ ap (numbered (frames_of 0 c)) (sub-zero sought)

@@ -41,7 +41,7 @@ pub fn read(s: &[u8], k: usize) -> Option<Entry>
     Some(Entry { kind, size })
 }
 
-// The offset of its body from the section's start.
+// The offset of entry k's body from the section's start.
 fn offset(s: &[u8], k: usize) -> usize
     requires { (k < entry_limit) × (head_size (k + 1) ≤ length s.now) }
     ensures { result ≡ offset_at k s.now }

@@ -36,11 +36,7 @@ pub fn find(capture: &[u8], number: FrameNumber) -> Result<Part, Refusal>
     ensures { result ≡ calls.found capture.now number.0 }
 {
     let t = walk::capture(capture, number)?;
-    if (number.0 as usize) < t.frames {
-        Ok(t.found)
-    } else {
-        Err(Refusal::PastLastFrame)
-    }
+    t.found.ok_or(Refusal::PastLastFrame)
 }
 
 // The bytes of a frame that was found, a part of the capture; empty on refusal.

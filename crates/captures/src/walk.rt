@@ -12,36 +12,32 @@ use refusals::Refusal;
 #[derive(Clone, Copy)]
 pub struct Tally {
     pub frames: usize,
-    pub found: Part,
+    pub found: Option<Part>,
 }
 
 impl Tally {
-    // One frame more.
-    fn counted(self, sought: FrameNumber, frame: Part) -> Tally
-        requires { self.frames ≤ capture_limit }
-        ensures { result ≡ tallies.counted sought.0 self frame }
+    // Counts one frame more.
+    fn count(&mut self, sought: FrameNumber, frame: Part)
+        requires { self.old.frames ≤ capture_limit }
+        ensures { self.new ≡ tallies.counted sought.0 self.old frame }
     {
-        let frames = self.frames + 1;
         if self.frames == sought.0 as usize {
-            return Tally {
-                frames,
-                found: frame,
-            };
+            self.found = Some(frame);
         }
-        Tally { frames, ..self }
+        self.frames += 1;
     }
 }
 
 // Walks a section that begins at `base` of the capture, with so many levels left for it and the groups in it.
 fn section(
     sought: FrameNumber,
-    tally: Tally,
+    tally: &mut Tally,
     base: usize,
     levels: usize,
     s: &[u8],
-) -> Result<Tally, Refusal>
-    requires { (tally.frames ≤ base) × (base + length s.now ≤ capture_limit) }
-    ensures { result ≡ tallies.tallied sought.0 tally base (walk_section levels s.now) }
+) -> Result<(), Refusal>
+    requires { (tally.old.frames ≤ base) × (base + length s.now ≤ capture_limit) }
+    ensures { tallies.refused_or result tally.new ≡ tallies.tallied sought.0 tally.old base (walk_section levels s.now) }
 {
     if levels == 0 {
         return Err(Refusal::TooDeep);
@@ -50,7 +46,6 @@ fn section(
         return Err(Refusal::BrokenCapture);
     }
     let count = entries::count(s);
-    let mut tally = tally;
     let mut place = 2 + 8 * count;
     for k in 0..count {
         // `sound` has judged each entry, so `read` finds one.
@@ -59,14 +54,14 @@ fn section(
         };
         let b = parts::part(s, place, size);
         let start = base + place;
-        tally = match kind {
-            Kind::Frame if body::is_frame(b) => tally.counted(sought, Part { start, size }),
+        match kind {
+            Kind::Frame if body::is_frame(b) => tally.count(sought, Part { start, size }),
             Kind::Frame => return Err(Refusal::BrokenCapture),
             Kind::Group => section(sought, tally, start, levels - 1, b)?,
-        };
+        }
         place += size;
     }
-    Ok(tally)
+    Ok(())
 }
 
 // Walks a capture, counts its frames and looks for one of them.
@@ -76,7 +71,10 @@ pub fn capture(s: &[u8], sought: FrameNumber) -> Result<Tally, Refusal>
     if 65536 < s.len() {
         return Err(Refusal::BrokenCapture);
     }
-    let found = Part { start: 0, size: 0 };
-    let none = Tally { frames: 0, found };
-    section(sought, none, 0, 6, s)
+    let mut tally = Tally {
+        frames: 0,
+        found: None,
+    };
+    section(sought, &mut tally, 0, 6, s)?;
+    Ok(tally)
 }

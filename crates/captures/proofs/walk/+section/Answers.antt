@@ -1,6 +1,7 @@
 -- `captures::walk::section` meets its contract.
 use Rattle.std.proofs.Common.{◌≡◌, ℕ, ◌+◌, ◌-◌, ◌≤◌, true, false, List, length, sym, ap, ◌∙◌, arith}
 use Rattle.std.proofs.lemmas.Grind.{common_steps}
+use Rattle.refusals.specs.Refusals.{Check}
 use Rattle.refusals.specs.declared.Refusal.{Refusal}
 use Rattle.refusals.specs.declared.Refusal.TheVariants.{BrokenCapture}
 use Rattle.captures.specs.declared.walk.Tally.{Tally}
@@ -9,33 +10,33 @@ use Rattle.std.specs.Prelude.{Ok, Err}
 use Rattle.captures.specs.Layout.{capture_limit, head_size, kind_at, size_at, is_frame}
 use Rattle.captures.specs.Content.{part_of}
 use Rattle.captures.specs.Walk.{walk_section}
-use Rattle.captures.specs.Tallies.{counted, tallied}
+use Rattle.captures.specs.Tallies.{counted, tallied, refused_or}
 use Rattle.captures.proofs.Finds.{head-found}
 use Rattle.captures.proofs.Heads.{next}
 use Rattle.captures.proofs.Reading.{Told, told, unknown}
 use Rattle.captures.proofs.Tallying.{no_levels, no_head}
 use Rattle.captures.proofs.SectionLoop.{Left, begins, ends, reaches, sized, frame-broken, frame-counted, group-broken, group-tallied}
 use Rattle.captures.proofs.walk.+section.Goals as goal
-use Rattle.captures.proofs.walk.+section.Goals.{After-count-count, After-part-b, in-Frame, in-Group+in_ok-tally-in-Group}
+use Rattle.captures.proofs.walk.+section.Goals.{After-count-count, After-part-b, in-Frame, in-Group+in_ok-section-in-Group}
 
 pub returns-then-levels-eq0 : goal.returns-then-levels-eq0
 returns-then-levels-eq0 t c =
     let a = c.args in
-    sym (no_levels a.sought.0 a.tally a.base a.s.now a.levels c.if-levels-eq0.true)
+    sym (no_levels a.sought.0 a.tally.now a.base a.s.now a.levels c.if-levels-eq0.true)
 
 pub returns-then-not-sound : goal.returns-then-not-sound
 returns-then-not-sound t c =
     let a = c.args in
-    sym (no_head a.sought.0 a.tally a.base a.s.now a.levels (omega (arith, c.if-levels-eq0.false)) (sym c.sound.ensures ∙ c.if-not-sound.true))
+    sym (no_head a.sought.0 a.tally.now a.base a.s.now a.levels (omega (arith, c.if-levels-eq0.false)) (sym c.sound.ensures ∙ c.if-not-sound.true))
 
 pub count-count-requires : goal.count-count-requires
 count-count-requires t c = omega (arith, (head-found c.args.s.now (sym c.sound.ensures ∙ c.if-not-sound.false)).fits)
 
 -- The loop begins.
-begun : (t : ℕ) (c : After-count-count t) → Left c.args.sought.0 c.args.tally c.args.base c.args.levels c.args.s.now c.count-count.result c.args.tally (head_size c.count-count.result) 0
+begun : (t : ℕ) (c : After-count-count t) → Left c.args.sought.0 c.args.tally.now c.args.base c.args.levels c.args.s.now c.count-count.result c.args.tally.now (head_size c.count-count.result) 0
 begun t c =
     let a = c.args in
-    begins a.sought.0 a.tally a.base a.levels a.s.now c.count-count.result c.count-count.ensures (omega (arith, c.if-levels-eq0.false)) (sym c.sound.ensures ∙ c.if-not-sound.false) c.requires.0
+    begins a.sought.0 a.tally.now a.base a.levels a.s.now c.count-count.result c.count-count.ensures (omega (arith, c.if-levels-eq0.false)) (sym c.sound.ensures ∙ c.if-not-sound.false) c.requires.0
 
 pub overflow_mul-place : goal.overflow_mul-place
 overflow_mul-place t c = record { fits = omega (arith, (begun t c).few) }
@@ -52,7 +53,7 @@ module _ (t : ℕ) (d : After-part-b t) where
   sought = d.args.sought.0
 
   abbrev first : Tally
-  first = d.args.tally
+  first = d.args.tally.now
 
   abbrev base : ℕ
   base = d.args.base
@@ -120,8 +121,8 @@ returns-in_default t c =
 pub overflow_add-start : goal.overflow_add-start
 overflow_add-start t c = record { fits = omega (arith, reaches_at t (goal.at.overflow_add-start t c).After-part-b) }
 
-pub counted-tally-requires : goal.counted-tally-requires
-counted-tally-requires t c = omega (arith, c.loop-k.invariant.fewer, reaches_at t (goal.at.counted-tally-requires t c).After-part-b)
+pub count-requires : goal.count-requires
+count-requires t c = omega (arith, c.loop-k.invariant.fewer, reaches_at t (goal.at.count-requires t c).After-part-b)
 
 pub returns-in-Frame-2 : goal.returns-in-Frame-2
 returns-in-Frame-2 t c =
@@ -132,9 +133,9 @@ section-requires t c =
     let d = (goal.at.section-requires t c).After-part-b in
     (omega (arith, c.if-levels-eq0.false, c.decreases), (c.loop-k.invariant.fewer, omega (arith, reaches_at t d, sized_at t d)))
 
-pub returns-in_err-tally-in-Group : goal.returns-in_err-tally-in-Group
-returns-in_err-tally-in-Group t c =
-    let e = group_broken_at t (goal.at.returns-in_err-tally-in-Group t c).After-part-b _ (cc) (sym c.in_err-tally-in-Group.was ∙ c.section.ensures) in
+pub returns-in_err-section-in-Group : goal.returns-in_err-section-in-Group
+returns-in_err-section-in-Group t c =
+    let e = group_broken_at t (goal.at.returns-in_err-section-in-Group t c).After-part-b _ (cc) (sym (ap (λ (p : Check). refused_or p c.section.new.tally) c.in_err-section-in-Group.was) ∙ c.section.ensures) in
     grind (arith, common_steps, e)
 
 pub overflow_add-place-in-loop-k : goal.overflow_add-place-in-loop-k
@@ -144,11 +145,11 @@ pub loop-k-preserved : goal.loop-k-preserved
 loop-k-preserved t c =
     let d = (goal.at.loop-k-preserved t c).After-part-b in
     elim c.match-kind.branch [
-      | in-Frame w ↦ frame_counted_at t d _ (cc) (sym w.is_frame.ensures ∙ w.if-is_frame.true) (w.tally-is ∙ w.counted-tally.ensures)
-      | in-Group+in_ok-tally-in-Group w ↦ group_tallied_at t d _ (cc) (ap Ok w.tally-is ∙ sym w.in_ok-tally-in-Group.was ∙ w.section.ensures)
+      | in-Frame w ↦ frame_counted_at t d _ (cc) (sym w.is_frame.ensures ∙ w.if-is_frame.true) (w.tally-is ∙ w.count.ensures)
+      | in-Group+in_ok-section-in-Group w ↦ group_tallied_at t d _ (cc) (ap Ok w.tally-is ∙ sym (ap (λ (p : Check). refused_or p w.section.new.tally) w.in_ok-section-in-Group.was) ∙ w.section.ensures)
     ]
 
 pub returns : goal.returns
 returns t c =
     let a = c.args in
-    ends a.sought.0 a.tally a.base a.levels a.s.now c.count-count.result c.loop-k.tally c.loop-k.place c.loop-k.k c.loop-k.invariant c.loop-k-test.false
+    ends a.sought.0 a.tally.now a.base a.levels a.s.now c.count-count.result c.loop-k.tally c.loop-k.place c.loop-k.k c.loop-k.invariant c.loop-k-test.false
