@@ -6,11 +6,6 @@ ghost use Rattle.captures.specs.Layout as layout;
 pub fn part(s: &[u8], at: usize, n: usize) -> &[u8]
     ensures { result.now ≡ layout.part at n s.now }
 {
-    if s.len() <= at {
-        return &s[..0];
-    }
-    if s.len() - at <= n {
-        return &s[at..];
-    }
-    &s[at..at + n]
+    let rest = &s[at.min(s.len())..];
+    &rest[..n.min(rest.len())]
 }
