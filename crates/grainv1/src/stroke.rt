@@ -9,28 +9,26 @@ ghost use Rattle.grainv1.specs.Functions.{grainv1};
 ghost use Rattle.grainv1.specs.Words.{generator_of};
 
 use crate::registers::Registers;
-use crate::{registers, windows};
+use crate::windows::{self, Windows};
 
 // The sixteen outputs to come, which are the lowest sixteen bits.
 pub fn outputs(g: Registers) -> u64
     ensures { word 16 result ≡ listed 16 (output_at grainv1 (generator_of g)) }
 {
-    let s16 = registers::moved(g.lfsr0, g.lfsr1);
-    let b16 = registers::moved(g.nfsr0, g.nfsr1);
-    windows::output(g.lfsr0, s16, g.nfsr0, b16)
+    windows::output(Windows::of(g.lfsr0, g.lfsr1), Windows::of(g.nfsr0, g.nfsr1))
 }
 
 // The registers after sixteen clocks. To the new bits of both are added the lowest sixteen bits of a word.
 fn stroke(g: Registers, added: u64) -> Registers
     ensures { generator_of result ≡ stroked grainv1 16 (places (word 16 «added»)) (places (word 16 «added»)) (generator_of g) }
 {
-    let s16 = registers::moved(g.lfsr0, g.lfsr1);
-    let b16 = registers::moved(g.nfsr0, g.nfsr1);
+    let s = Windows::of(g.lfsr0, g.lfsr1);
+    let b = Windows::of(g.nfsr0, g.nfsr1);
     Registers {
-        lfsr0: s16,
-        lfsr1: windows::linear(g.lfsr0, s16) ^ added,
-        nfsr0: b16,
-        nfsr1: (g.lfsr0 >> 48) ^ windows::nonlinear(g.nfsr0, b16) ^ added,
+        lfsr0: s.1,
+        lfsr1: windows::linear(s) ^ added,
+        nfsr0: b.1,
+        nfsr1: (g.lfsr0 >> 48) ^ windows::nonlinear(b) ^ added,
     }
 }
 

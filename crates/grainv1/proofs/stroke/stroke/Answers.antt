@@ -5,4 +5,4 @@ use Rattle.grainv1.proofs.stroke.stroke.Goals as goal
 pub returns : goal.returns
 returns c =
     let a = c.args in
-    rw (c.nonlinear.ensures, c.linear.ensures) (stroke_words a.g c.moved-s16.result c.moved-b16.result c.moved-s16.ensures c.moved-b16.ensures a.added)
+    rw (c.nonlinear.ensures, c.linear.ensures, c.of-s.ensures.0, c.of-b.ensures.0) (stroke_words a.g c.of-s.result.1 c.of-b.result.1 c.of-s.ensures.1 c.of-b.ensures.1 a.added)
