@@ -25,8 +25,8 @@ pub fn line(rt: &impl Print, name: &str, to_add: Adding, clocks: usize) -> io::R
         "NOT"
     };
     let first = strokes::run(states::state(FIRST), to_add, clocks);
-    let outputs = first.outputs;
     println!(rt;
-        "{verdict:<8}  {name}, {clocks} clocks, {STATES} states; the first ends in pre-outputs {outputs:016x}"
+        "{verdict:<8}  {name}, {clocks} clocks, {STATES} states; the first ends in pre-outputs {:016x}",
+        first.outputs
     )
 }
