@@ -14,3 +14,4 @@ pub mod Written
 pub mod Slides
 pub mod Turned
 pub mod Parts
+pub mod Arrays

@@ -2,6 +2,7 @@
 use mathlib.Core.Path.{◌≡◌, sym, ap, ◌∙◌, subst}
 use mathlib.Core.List.{List}
 use Prim.Native.Nat.{ℕ}
+use Rattle.bits.proofs.Arrays.{unwrapped_same}
 use Rattle.refusals.specs.Refusals.{Answer, among}
 use Rattle.refusals.specs.Outcome.{Outcome, outcome}
 use Rattle.refusals.proofs.Returned.{handed_on}
@@ -53,8 +54,8 @@ returns-in_err-judge_unauthenticated c =
 pub returns : goal.returns
 returns c =
     let a = c.args in
-    let key_same = (rw c.unwrap.ensures at c.try_into.ensures.1).same in
-    let nonce_same = (rw c.unwrap-2.ensures at c.try_into-2.ensures.1).same in
+    let key_same = unwrapped_same c.try_into.ensures c.unwrap.ensures in
+    let nonce_same = unwrapped_same c.try_into-2.ensures c.unwrap-2.ensures in
     let k = called a.key.now a.nonce.now a.message.now a.out.now
     (crypt_passed (checked (goal.at.returns c).After-judge_unauthenticated) c.in_ok-judge_unauthenticated.was (rw (key_same, nonce_same) at c.warm-warmed.ensures) c.add_keystream.ensures) in
     record { crypted = k.0; demand1 = k.1.0; crypting = k.1.1 }

@@ -4,6 +4,7 @@ use mathlib.Core.List.{List}
 use Prim.Native.Nat.{ℕ, ◌+◌, ◌≤◌}
 use native.Mathlib.Omega.{arith}
 use lib.ListN.{length}
+use Rattle.bits.proofs.Arrays.{unwrapped_same}
 use Rattle.bits.proofs.Written.{word-written}
 use Rattle.refusals.specs.Refusals.{Answer, among, passed}
 use Rattle.refusals.specs.Outcome.{Outcome, outcome}
@@ -73,8 +74,8 @@ returns-in_err-judge_authenticated c =
 pub returns : goal.returns
 returns c =
     let a = c.args in
-    let key_same = (rw c.unwrap.ensures at c.try_into.ensures.1).same in
-    let nonce_same = (rw c.unwrap-2.ensures at c.try_into-2.ensures.1).same in
+    let key_same = unwrapped_same c.try_into.ensures c.unwrap.ensures in
+    let nonce_same = unwrapped_same c.try_into-2.ensures c.unwrap-2.ensures in
     let size = c.size-size.ensures in
     let k = called a.tag_bits a.key.now a.nonce.now a.message.now a.out.now
     (rw size

@@ -1,5 +1,6 @@
 -- `grainv1::crypt` meets its contract.
 use mathlib.Core.Path.{sym, ap, ◌∙◌}
+use Rattle.bits.proofs.Arrays.{unwrapped_same}
 use Rattle.refusals.specs.Refusals.{Answer}
 use Rattle.refusals.specs.Outcome.{outcome}
 use Rattle.refusals.proofs.Returned.{handed_on}
@@ -33,8 +34,8 @@ returns-in_err-judge c =
 pub returns : goal.returns
 returns c =
     let a = c.args in
-    let key_same = (rw c.unwrap.ensures at c.try_into.ensures.1).same in
-    let nonce_same = (rw c.unwrap-2.ensures at c.try_into-2.ensures.1).same in
+    let key_same = unwrapped_same c.try_into.ensures c.unwrap.ensures in
+    let nonce_same = unwrapped_same c.try_into-2.ensures c.unwrap-2.ensures in
     let left = crypt_passed a.key.now a.nonce.now a.message.now a.out.now (sym c.judge.ensures ∙ c.in_ok-judge.was) (rw (key_same, nonce_same) at c.begin-begun.ensures) c.add.ensures in
     let told = called a.key.now a.nonce.now a.message.now a.out.now left in
     record { crypted = told.0; demand1 = told.1.0; crypting = told.1.1 }

@@ -1,5 +1,6 @@
 -- `streams::begin` meets its contract.
 use mathlib.Core.Path.{sym, ◌∙◌}
+use Rattle.bits.proofs.Arrays.{unwrapped_same}
 use Rattle.grain128aead.specs.Sizes.{ad_limit}
 use native.Mathlib.Omega.{arith}
 use Rattle.streams.proofs.Engines.{starts}
@@ -39,7 +40,7 @@ unfolding ad_limit
 returns c =
     let a = c.args in
     let judged = rw c.known-unknown.ensures at c.judge_begin.ensures in
-    let key_same = (rw c.unwrap.ensures at c.try_into.ensures.1).same in
-    let nonce_same = (rw c.unwrap-2.ensures at c.try_into-2.ensures.1).same in
+    let key_same = unwrapped_same c.try_into.ensures c.unwrap.ensures in
+    let nonce_same = unwrapped_same c.try_into-2.ensures c.unwrap-2.ensures in
     let k = began {kind = a.kind} judged c.in_ok-judge_begin.was _ (starts a.kind a.key.now a.nonce.now a.announced c.start-engine.result c.named.ensures (rw (key_same, nonce_same) at c.start-engine.ensures) c.number.ensures) c.put.ensures.counted c.put.ensures.stored c.put.ensures.fits in
     record { called = k.called; demand1 = k.demand1; fits = k.fits }

@@ -6,6 +6,7 @@ use native.Mathlib.Omega.{arith}
 use lib.Dec.{ltb}
 use lib.ListN.{length}
 use Rattle.bits.specs.Bytes.{Bytes}
+use Rattle.bits.proofs.Arrays.{unwrapped_same}
 use Rattle.refusals.specs.Refusals.{Check}
 use Rattle.refusals.specs.Refusals.{Answer}
 use Rattle.refusals.specs.Outcome.{Outcome, outcome}
@@ -65,8 +66,8 @@ compared : (n : After-number) →
     let a = n.args in
     Compared a.edition a.key.now a.nonce.now a.ad.now a.input.now n.begin-begun.result n.decipher_all-done.result n.finish.result n.number.result
 compared n =
-    let key_same = (rw n.unwrap.ensures at n.try_into.ensures.1).same in
-    let nonce_same = (rw n.unwrap-2.ensures at n.try_into-2.ensures.1).same in
+    let key_same = unwrapped_same n.try_into.ensures n.unwrap.ensures in
+    let nonce_same = unwrapped_same n.try_into-2.ensures n.unwrap-2.ensures in
     record {
       is_bytes = λ i. omega (arith, n.type_inv.input i);
       began = rw (key_same, nonce_same) at n.begin-begun.ensures;

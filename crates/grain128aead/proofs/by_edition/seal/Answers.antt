@@ -4,6 +4,7 @@ use mathlib.Core.List.{List}
 use Prim.Native.Nat.{ℕ}
 use native.Mathlib.Omega.{arith}
 use lib.ListN.{length}
+use Rattle.bits.proofs.Arrays.{unwrapped_same}
 use Rattle.bits.proofs.Written.{word-written}
 use Rattle.refusals.specs.Refusals.{Answer}
 use Rattle.refusals.specs.Outcome.{Outcome, outcome}
@@ -66,8 +67,8 @@ returns-in_err-judge c =
 pub returns : goal.returns
 returns c =
     let a = c.args in
-    let key_same = (rw c.unwrap.ensures at c.try_into.ensures.1).same in
-    let nonce_same = (rw c.unwrap-2.ensures at c.try_into-2.ensures.1).same in
+    let key_same = unwrapped_same c.try_into.ensures c.unwrap.ensures in
+    let nonce_same = unwrapped_same c.try_into-2.ensures c.unwrap-2.ensures in
     let k = called a.edition a.key.now a.nonce.now a.ad.now a.message.now a.out.now
     (seal_passed (checked (goal.at.returns c).After-judge) c.in_ok-judge.was a.edition c.begin-begun.result c.encipher_all-done.result c.finish.result
     (rw (key_same, nonce_same) at c.begin-begun.ensures) c.encipher_all-done.ensures c.finish.ensures (word-written _ (length a.message.now) 8 c.finish.result (omega (arith, c.encipher_all-done.auto, seal_room (checked (goal.at.returns c).After-judge) c.in_ok-judge.was)) c.spell.ensures)) in
