@@ -37,3 +37,7 @@ outcome_fits o small = capped_fits o.answer fits
 -- What an exported call returns, from what the call under it answers.
 pub returned : (a : Answer) (output : List ℕ) (o : Outcome) (r : ℤ) → r ≡ signed_of (capped a) → capped a ≡ a → outcome a output ≡ o → Returns o r output
 returned a output o r n fits e = record { number = n ∙ ap signed_of fits ∙ ap (λ (u : Outcome). signed_of u.answer) e; written = ap (λ (u : Outcome). u.output) e }
+
+-- What a call leaves whose refusal `?` hands on.
+pub handed_outcome : (a : Answer) {r : Refusal} {output : List ℕ} {o : Outcome} → IsErrAnd a (λ q. q ≡ r) → outcome (Err r) output ≡ o → outcome a output ≡ o
+handed_outcome a {r} {output} h e = ap (λ (u : Answer). outcome u output) (handed_on a r h) ∙ e

@@ -1,11 +1,11 @@
 -- `grain128a::crypt` meets its contract.
-use mathlib.Core.Path.{◌≡◌, sym, ap, ◌∙◌, subst}
+use mathlib.Core.Path.{◌≡◌, sym, subst}
 use mathlib.Core.List.{List}
 use Prim.Native.Nat.{ℕ}
 use Rattle.bits.proofs.Arrays.{unwrapped_same}
-use Rattle.refusals.specs.Refusals.{Answer, among}
-use Rattle.refusals.specs.Outcome.{Outcome, outcome}
-use Rattle.refusals.proofs.Returned.{handed_on}
+use Rattle.refusals.specs.Refusals.{among}
+use Rattle.refusals.specs.Outcome.{Outcome}
+use Rattle.refusals.proofs.Returned.{handed_outcome}
 use Rattle.limits.specs.Limits.{message_limit}
 use Rattle.checks.specs.Demand1.{Demand1}
 use Rattle.mode_checks.specs.Order.{unauthenticated}
@@ -48,7 +48,7 @@ unwrap-requires-2 c =
 pub returns-in_err-judge_unauthenticated : goal.returns-in_err-judge_unauthenticated
 returns-in_err-judge_unauthenticated c =
     let a = c.args in
-    let k = called a.key.now a.nonce.now a.message.now a.out.now (ap (λ (r : Answer). outcome r a.out.now) (handed_on c.from_residual.result _ c.from_residual.ensures.1) ∙ crypt_failed (checked (goal.at.returns-in_err-judge_unauthenticated c).After-judge_unauthenticated) c.in_err-judge_unauthenticated.was) in
+    let k = called a.key.now a.nonce.now a.message.now a.out.now (handed_outcome c.from_residual.result c.from_residual.ensures.1 (crypt_failed (checked (goal.at.returns-in_err-judge_unauthenticated c).After-judge_unauthenticated) c.in_err-judge_unauthenticated.was)) in
     record { crypted = k.0; demand1 = k.1.0; crypting = k.1.1 }
 
 pub returns : goal.returns

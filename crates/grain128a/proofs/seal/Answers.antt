@@ -1,14 +1,14 @@
 -- `grain128a::seal` meets its contract.
-use mathlib.Core.Path.{◌≡◌, sym, ap, ◌∙◌, subst}
+use mathlib.Core.Path.{◌≡◌, sym, subst}
 use mathlib.Core.List.{List}
 use Prim.Native.Nat.{ℕ, ◌+◌, ◌≤◌}
 use native.Mathlib.Omega.{arith}
 use lib.ListN.{length}
 use Rattle.bits.proofs.Arrays.{unwrapped_same}
 use Rattle.bits.proofs.Written.{word-written}
-use Rattle.refusals.specs.Refusals.{Answer, among, passed}
-use Rattle.refusals.specs.Outcome.{Outcome, outcome}
-use Rattle.refusals.proofs.Returned.{handed_on}
+use Rattle.refusals.specs.Refusals.{among, passed}
+use Rattle.refusals.specs.Outcome.{Outcome}
+use Rattle.refusals.proofs.Returned.{handed_outcome}
 use Rattle.limits.specs.Limits.{message_limit}
 use Rattle.checks.specs.Demand1.{Demand1}
 use Rattle.mode_checks.specs.Order.{authenticated}
@@ -68,7 +68,7 @@ slice_bounds-spell-end c =
 pub returns-in_err-judge_authenticated : goal.returns-in_err-judge_authenticated
 returns-in_err-judge_authenticated c =
     let a = c.args in
-    let k = called a.tag_bits a.key.now a.nonce.now a.message.now a.out.now (ap (λ (r : Answer). outcome r a.out.now) (handed_on c.from_residual.result _ c.from_residual.ensures.1) ∙ seal_failed (checked (goal.at.returns-in_err-judge_authenticated c).After-judge_authenticated) c.in_err-judge_authenticated.was) in
+    let k = called a.tag_bits a.key.now a.nonce.now a.message.now a.out.now (handed_outcome c.from_residual.result c.from_residual.ensures.1 (seal_failed (checked (goal.at.returns-in_err-judge_authenticated c).After-judge_authenticated) c.in_err-judge_authenticated.was)) in
     record { sealed = k.0; demand1 = k.1.0; demand2 = k.1.1 }
 
 pub returns : goal.returns

@@ -1,9 +1,7 @@
 -- `grainv1::crypt` meets its contract.
-use mathlib.Core.Path.{sym, ap, ◌∙◌}
+use mathlib.Core.Path.{sym, ◌∙◌}
 use Rattle.bits.proofs.Arrays.{unwrapped_same}
-use Rattle.refusals.specs.Refusals.{Answer}
-use Rattle.refusals.specs.Outcome.{outcome}
-use Rattle.refusals.proofs.Returned.{handed_on}
+use Rattle.refusals.proofs.Returned.{handed_outcome}
 use Rattle.grainv1.proofs.Calls.{passed_legal, called, crypt_failed, crypt_passed}
 use Rattle.grainv1.proofs.crypt.Goals as goal
 
@@ -27,7 +25,7 @@ add-requires c =
 pub returns-in_err-judge : goal.returns-in_err-judge
 returns-in_err-judge c =
     let a = c.args in
-    let left = ap (λ (r : Answer). outcome r a.out.now) (handed_on c.from_residual.result _ c.from_residual.ensures.1) ∙ crypt_failed a.key.now a.nonce.now a.message.now a.out.now (sym c.judge.ensures ∙ c.in_err-judge.was) in
+    let left = handed_outcome c.from_residual.result c.from_residual.ensures.1 (crypt_failed a.key.now a.nonce.now a.message.now a.out.now (sym c.judge.ensures ∙ c.in_err-judge.was)) in
     let told = called a.key.now a.nonce.now a.message.now a.out.now left in
     record { crypted = told.0; demand1 = told.1.0; crypting = told.1.1 }
 

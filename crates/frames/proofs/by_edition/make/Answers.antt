@@ -5,9 +5,9 @@ use Prim.Native.Nat.{ℕ, ◌+◌, ◌-◌}
 use native.Mathlib.Omega.{arith}
 use borrow.Rule.Slice.PartMut.{put_mid, same_len_mid}
 use lib.ListN.{length, set}
-use Rattle.refusals.specs.Refusals.{Answer, among}
-use Rattle.refusals.specs.Outcome.{Outcome, outcome}
-use Rattle.refusals.proofs.Returned.{handed_on}
+use Rattle.refusals.specs.Refusals.{among}
+use Rattle.refusals.specs.Outcome.{Outcome}
+use Rattle.refusals.proofs.Returned.{handed_outcome}
 use Rattle.checks.specs.Demand1.{Demand1}
 use Rattle.machine.specs.declared.edition.Edition.{Edition}
 use Rattle.frame_checks.specs.Order as order
@@ -78,7 +78,7 @@ slice_bounds-spell-end c =
 pub returns-in_err-judge_making : goal.returns-in_err-judge_making
 returns-in_err-judge_making c =
     let a = c.args in
-    let k = called a.edition a.key.now a.nonce.now a.identifier a.message.now a.out.now (ap (λ (r : Answer). outcome r a.out.now) (handed_on c.from_residual.result _ c.from_residual.ensures.1) ∙ make_failed (checked (goal.at.returns-in_err-judge_making c).After-judge_making) a.edition c.in_err-judge_making.was) in
+    let k = called a.edition a.key.now a.nonce.now a.identifier a.message.now a.out.now (handed_outcome c.from_residual.result c.from_residual.ensures.1 (make_failed (checked (goal.at.returns-in_err-judge_making c).After-judge_making) a.edition c.in_err-judge_making.was)) in
     record { made = k.0; demand1 = k.1.0; demand2 = k.1.1 }
 
 pub shape_of-out : goal.shape_of-out

@@ -1,12 +1,12 @@
 -- `frames::by_edition::read` meets its contract.
-use mathlib.Core.Path.{◌≡◌, sym, ap, ◌∙◌, subst}
+use mathlib.Core.Path.{◌≡◌, sym, subst}
 use mathlib.Core.List.{List}
 use Prim.Native.Nat.{ℕ}
 use native.Mathlib.Omega.{arith}
 use Rattle.bits.specs.Bytes.{Bytes}
-use Rattle.refusals.specs.Refusals.{Answer, among}
-use Rattle.refusals.specs.Outcome.{Outcome, outcome}
-use Rattle.refusals.proofs.Returned.{handed_on}
+use Rattle.refusals.specs.Refusals.{among}
+use Rattle.refusals.specs.Outcome.{Outcome}
+use Rattle.refusals.proofs.Returned.{handed_outcome}
 use Rattle.checks.specs.Demand1.{Demand1}
 use Rattle.machine.specs.declared.edition.Edition.{Edition}
 use Rattle.frame_checks.specs.Order as order
@@ -45,7 +45,7 @@ slice_bounds-open-end-2 c =
 pub returns-in_err-judge_reading : goal.returns-in_err-judge_reading
 returns-in_err-judge_reading c =
     let a = c.args in
-    let k = called a.edition a.key.now a.nonce.now a.identifier a.code a.field.now a.out.now (is-bytes (goal.at.returns-in_err-judge_reading c).After-judge_reading) (ap (λ (r : Answer). outcome r a.out.now) (handed_on c.from_residual.result _ c.from_residual.ensures.1) ∙ read_failed (checked (goal.at.returns-in_err-judge_reading c).After-judge_reading) a.edition c.in_err-judge_reading.was) in
+    let k = called a.edition a.key.now a.nonce.now a.identifier a.code a.field.now a.out.now (is-bytes (goal.at.returns-in_err-judge_reading c).After-judge_reading) (handed_outcome c.from_residual.result c.from_residual.ensures.1 (read_failed (checked (goal.at.returns-in_err-judge_reading c).After-judge_reading) a.edition c.in_err-judge_reading.was)) in
     record { read = k.0; demand1 = k.1.0; promises = k.1.1 }
 
 pub returns : goal.returns

@@ -8,9 +8,8 @@ use lib.ListN.{length}
 use Rattle.bits.specs.Bytes.{Bytes}
 use Rattle.bits.proofs.Arrays.{unwrapped_same}
 use Rattle.refusals.specs.Refusals.{Check}
-use Rattle.refusals.specs.Refusals.{Answer}
-use Rattle.refusals.specs.Outcome.{Outcome, outcome}
-use Rattle.refusals.proofs.Returned.{handed_on}
+use Rattle.refusals.specs.Outcome.{Outcome}
+use Rattle.refusals.proofs.Returned.{handed_outcome}
 use Rattle.machine.specs.declared.edition.Edition.{Edition}
 use Rattle.tagged.proofs.Entry.{no_room}
 use Rattle.payload.specs.Sizes.{tag_size}
@@ -94,7 +93,7 @@ overflow_sub-result c =
 pub returns-in_err-judge : goal.returns-in_err-judge
 returns-in_err-judge c =
     let a = c.args in
-    let k = called a.edition a.key.now a.nonce.now a.ad.now a.input.now a.out.now (is-bytes (goal.at.returns-in_err-judge c).After-judge) (ap (λ (r : Answer). outcome r a.out.now) (handed_on c.from_residual.result _ c.from_residual.ensures.1) ∙ open_failed (checked (goal.at.returns-in_err-judge c).After-judge) a.edition c.in_err-judge.was) in
+    let k = called a.edition a.key.now a.nonce.now a.ad.now a.input.now a.out.now (is-bytes (goal.at.returns-in_err-judge c).After-judge) (handed_outcome c.from_residual.result c.from_residual.ensures.1 (open_failed (checked (goal.at.returns-in_err-judge c).After-judge) a.edition c.in_err-judge.was)) in
     record { opened = k.0; demand1 = k.1.0; demand2 = k.1.1.0; demand3 = k.1.1.1.0; substitution = k.1.1.1.1 }
 
 pub returns : goal.returns

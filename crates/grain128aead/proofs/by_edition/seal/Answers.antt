@@ -1,14 +1,13 @@
 -- `grain128aead::by_edition::seal` meets its contract.
-use mathlib.Core.Path.{◌≡◌, sym, ap, ◌∙◌, subst}
+use mathlib.Core.Path.{◌≡◌, sym, subst}
 use mathlib.Core.List.{List}
 use Prim.Native.Nat.{ℕ}
 use native.Mathlib.Omega.{arith}
 use lib.ListN.{length}
 use Rattle.bits.proofs.Arrays.{unwrapped_same}
 use Rattle.bits.proofs.Written.{word-written}
-use Rattle.refusals.specs.Refusals.{Answer}
-use Rattle.refusals.specs.Outcome.{Outcome, outcome}
-use Rattle.refusals.proofs.Returned.{handed_on}
+use Rattle.refusals.specs.Outcome.{Outcome}
+use Rattle.refusals.proofs.Returned.{handed_outcome}
 use Rattle.machine.specs.declared.edition.Edition.{Edition}
 use Rattle.payload.specs.Payload.{payload}
 use Rattle.limits.specs.Limits.{message_limit}
@@ -61,7 +60,7 @@ pub returns-in_err-judge : goal.returns-in_err-judge
 returns-in_err-judge c =
     let a = c.args in
     let k = called a.edition a.key.now a.nonce.now a.ad.now a.message.now a.out.now
-    (ap (λ (r : Answer). outcome r a.out.now) (handed_on c.from_residual.result _ c.from_residual.ensures.1) ∙ seal_failed (checked (goal.at.returns-in_err-judge c).After-judge) a.edition c.in_err-judge.was) in
+    (handed_outcome c.from_residual.result c.from_residual.ensures.1 (seal_failed (checked (goal.at.returns-in_err-judge c).After-judge) a.edition c.in_err-judge.was)) in
     record { sealed = k.0; demand1 = k.1.0; demand2 = k.1.1 }
 
 pub returns : goal.returns
