@@ -9,7 +9,7 @@ use Rattle.bits.specs.Bytes.{Bytes, flip}
 use Rattle.refusals.specs.declared.Refusal.{Refusal}
 use Rattle.refusals.specs.Refusals.{Check, among, check, passed}
 use Rattle.std.specs.Prelude.{Ok, Err}
-use Rattle.refusals.specs.Outcome.{Outcome, outcome, judged, settled}
+use Rattle.refusals.specs.Outcome.{outcome, judged, settled}
 use Rattle.refusals.proofs.LastRow.{settled_failed}
 use Rattle.limits.specs.Limits.{message_limit}
 use Rattle.checks.specs.Demand1.{Demand1}
@@ -49,17 +49,9 @@ module _ (key nonce : List ℕ) where
         untagged.crypting (Legal key nonce) (with_keystream key nonce) message out (judgement key nonce message out) (crypted key nonce message out) settles
         (λ l room. quiet_passed order (rows key nonce message out) (tabled key nonce message out) (legal_quiet key nonce message out l room)) passed_legal
 
-    demanded : Demand1 order (among (rows key nonce message out)) (with_keystream key nonce message) out (crypted key nonce message out)
+    pub demanded : Demand1 order (among (rows key nonce message out)) (with_keystream key nonce message) out (crypted key nonce message out)
     unfolding crypted
     demanded = demand1 order (rows key nonce message out) (tabled key nonce message out) (with_keystream key nonce message) out
-
-    -- The call's three clauses from the first of them.
-    pub called : {o : Outcome} → o ≡ crypted key nonce message out
-        → (o ≡ crypted key nonce message out) × (Demand1 order (among (rows key nonce message out)) (with_keystream key nonce message) out o × Crypting key nonce message out o)
-    called e = (
-      e,
-      (subst (Demand1 order (among (rows key nonce message out)) (with_keystream key nonce message) out) (sym e) demanded, subst (Crypting key nonce message out) (sym e) crypting),
-    )
 
     -- What the code leaves after a failed check, and after one that passed.
     pub crypt_failed : {r : Refusal} → judgement key nonce message out ≡ Err r → outcome (Err r) out ≡ crypted key nonce message out

@@ -1,33 +1,12 @@
 -- `grain128a::crypt` meets its contract.
-use mathlib.Core.Path.{◌≡◌, sym, subst}
-use mathlib.Core.List.{List}
-use Prim.Native.Nat.{ℕ}
+use mathlib.Core.Path.{refl}
 use Rattle.bits.proofs.Arrays.{unwrapped_same}
-use Rattle.refusals.specs.Refusals.{among}
-use Rattle.refusals.specs.Outcome.{Outcome}
 use Rattle.refusals.proofs.Returned.{handed_outcome}
 use Rattle.limits.specs.Limits.{message_limit}
-use Rattle.checks.specs.Demand1.{Demand1}
-use Rattle.mode_checks.specs.Order.{unauthenticated}
-use Rattle.grain128a.specs.Payload.{with_keystream}
-use Rattle.grain128a.specs.Calls.{crypting_rows, crypted}
-use Rattle.grain128a.specs.Demand2.{Crypting}
 use Rattle.grain128a.proofs.Demand2.{demand1_crypting, crypting}
 use Rattle.grain128a.proofs.Entry.{CryptChecked, crypt_failed, crypt-legal, crypt_passed}
 use Rattle.grain128a.proofs.crypt.Goals.{After-judge_unauthenticated}
 use Rattle.grain128a.proofs.crypt.Goals as goal
-
--- The call's three clauses from the first of them.
-called : (key nonce message out : List ℕ) {o : Outcome} → o ≡ crypted key nonce message out
-    → (o ≡ crypted key nonce message out)
-    × (Demand1 unauthenticated (among (crypting_rows key nonce message out)) (with_keystream key nonce message) out o × Crypting key nonce message out o)
-called key nonce message out e = (
-  e,
-  (
-    subst (Demand1 unauthenticated (among (crypting_rows key nonce message out)) (with_keystream key nonce message) out) (sym e) (demand1_crypting key nonce message out),
-    subst (Crypting key nonce message out) (sym e) (crypting key nonce message out),
-  ),
-)
 
 checked : (j : After-judge_unauthenticated) →
     let a = j.args in
@@ -47,15 +26,12 @@ unwrap-requires-2 c =
 
 pub returns-in_err-judge_unauthenticated : goal.returns-in_err-judge_unauthenticated
 returns-in_err-judge_unauthenticated c =
-    let a = c.args in
-    let k = called a.key.now a.nonce.now a.message.now a.out.now (handed_outcome c.from_residual.result c.from_residual.ensures.1 (crypt_failed (checked (goal.at.returns-in_err-judge_unauthenticated c).After-judge_unauthenticated) c.in_err-judge_unauthenticated.was)) in
-    record { crypted = k.0; demand1 = k.1.0; crypting = k.1.1 }
+    let left = handed_outcome c.from_residual.result c.from_residual.ensures.1 (crypt_failed (checked (goal.at.returns-in_err-judge_unauthenticated c).After-judge_unauthenticated) c.in_err-judge_unauthenticated.was) in
+    rw left (record { crypted = refl; demand1 = demand1_crypting _ _ _ _; crypting = crypting _ _ _ _ })
 
 pub returns : goal.returns
 returns c =
-    let a = c.args in
     let key_same = unwrapped_same c.try_into.ensures c.unwrap.ensures in
     let nonce_same = unwrapped_same c.try_into-2.ensures c.unwrap-2.ensures in
-    let k = called a.key.now a.nonce.now a.message.now a.out.now
-    (crypt_passed (checked (goal.at.returns c).After-judge_unauthenticated) c.in_ok-judge_unauthenticated.was (rw (key_same, nonce_same) at c.warm-warmed.ensures) c.add_keystream.ensures) in
-    record { crypted = k.0; demand1 = k.1.0; crypting = k.1.1 }
+    let left = crypt_passed (checked (goal.at.returns c).After-judge_unauthenticated) c.in_ok-judge_unauthenticated.was (rw (key_same, nonce_same) at c.warm-warmed.ensures) c.add_keystream.ensures in
+    rw left (record { crypted = refl; demand1 = demand1_crypting _ _ _ _; crypting = crypting _ _ _ _ })

@@ -1,5 +1,5 @@
 -- `grain128a::open` meets its contract.
-use mathlib.Core.Path.{◌≡◌, sym, ap, ◌∙◌, subst}
+use mathlib.Core.Path.{◌≡◌, refl, ap, ◌∙◌}
 use mathlib.Core.List.{List}
 use Prim.Native.Nat.{ℕ, ◌+◌, ◌-◌}
 use native.Mathlib.Omega.{arith}
@@ -7,42 +7,17 @@ use lib.Dec.{ltb}
 use lib.ListN.{length}
 use Rattle.bits.specs.Bytes.{Bytes}
 use Rattle.bits.proofs.Arrays.{unwrapped_same}
-use Rattle.refusals.specs.Refusals.{Check, among}
-use Rattle.refusals.specs.Outcome.{Outcome}
+use Rattle.refusals.specs.Refusals.{Check}
 use Rattle.refusals.proofs.Returned.{handed_outcome}
 use Rattle.limits.specs.Limits.{message_limit}
-use Rattle.checks.specs.Demand1.{Demand1}
-use Rattle.mode_checks.specs.Order.{authenticated}
 use Rattle.tagged.proofs.Entry.{no_room}
 use Rattle.grain128a.specs.Payload.{tag_size}
-use Rattle.grain128a.specs.Calls.{opening_rows, recovered, opened}
-use Rattle.grain128a.specs.Demand2.{Demand2}
-use Rattle.grain128a.specs.Demand3.{Demand3, PastTag}
 use Rattle.grain128a.proofs.Settled.{judgement, opening_judgement}
 use Rattle.grain128a.proofs.Demand2.{demand1_opening, demand2}
 use Rattle.grain128a.proofs.Demand3.{demand3, past-tag}
 use Rattle.grain128a.proofs.Entry.{OpenChecked, Compared, open_failed, open_clear, open_reaches, open_passed, open_differs}
 use Rattle.grain128a.proofs.open.Goals.{After-judge_authenticated, After-number}
 use Rattle.grain128a.proofs.open.Goals as goal
-
--- The call's five clauses from the first of them.
-called : (w : ℕ) (key nonce input out : List ℕ) {o : Outcome} → Bytes input → o ≡ opened w key nonce input out
-    → (o ≡ opened w key nonce input out)
-    × (Demand1 authenticated (among (opening_rows w key nonce input out)) (recovered w key nonce input) out o
-    × (Demand2 w key nonce input out o × (Demand3 w key nonce input out o × PastTag w key nonce input out o)))
-called w key nonce input out b e = (
-  e,
-  (
-    subst (Demand1 authenticated (among (opening_rows w key nonce input out)) (recovered w key nonce input) out) (sym e) (demand1_opening w key nonce input out),
-    (
-      subst (Demand2 w key nonce input out) (sym e) (demand2 w key nonce input out b),
-      (
-        subst (Demand3 w key nonce input out) (sym e) (demand3 w key nonce input out),
-        subst (PastTag w key nonce input out) (sym e) (past-tag w key nonce input out),
-      ),
-    ),
-  ),
-)
 
 sized : (w : ℕ) (key nonce input lent : List ℕ) (size : ℕ) {c : Check} → size ≡ tag_size w
     → c ≡ judgement w key nonce (ltb (message_limit + size) (length input)) (ltb (length input) size) (ltb (length lent + size) (length input)) → c ≡ opening_judgement w key nonce input lent
@@ -96,22 +71,17 @@ overflow_sub-result c =
 
 pub returns-in_err-judge_authenticated : goal.returns-in_err-judge_authenticated
 returns-in_err-judge_authenticated c =
-    let a = c.args in
-    let k = called a.tag_bits a.key.now a.nonce.now a.input.now a.out.now (is-bytes (goal.at.returns-in_err-judge_authenticated c).After-judge_authenticated) (handed_outcome c.from_residual.result c.from_residual.ensures.1 (open_failed (checked (goal.at.returns-in_err-judge_authenticated c).After-judge_authenticated) c.in_err-judge_authenticated.was)) in
-    record { opened = k.0; demand1 = k.1.0; demand2 = k.1.1.0; demand3 = k.1.1.1.0; past = k.1.1.1.1 }
+    let left = handed_outcome c.from_residual.result c.from_residual.ensures.1 (open_failed (checked (goal.at.returns-in_err-judge_authenticated c).After-judge_authenticated) c.in_err-judge_authenticated.was) in
+    rw left (record { opened = refl; demand1 = demand1_opening _ _ _ _ _; demand2 = demand2 _ _ _ _ _ (is-bytes (goal.at.returns-in_err-judge_authenticated c).After-judge_authenticated); demand3 = demand3 _ _ _ _ _; past = past-tag _ _ _ _ _ })
 
 pub returns : goal.returns
 returns c =
-    let a = c.args in
     let size = c.size-size.ensures in
-    let k = called a.tag_bits a.key.now a.nonce.now a.input.now a.out.now (is-bytes (goal.at.returns c).After-judge_authenticated)
-    (rw size
-    (open_passed (checked (goal.at.returns c).After-judge_authenticated) c.in_ok-judge_authenticated.was (compared (goal.at.returns c).After-number) c.if-finish-number.false
-    (rw size at (rw c.ciphertext_part-ciphertext.ensures at c.add_keystream.ensures)))) in
-    record { opened = k.0; demand1 = k.1.0; demand2 = k.1.1.0; demand3 = k.1.1.1.0; past = k.1.1.1.1 }
+    let left = open_passed (checked (goal.at.returns c).After-judge_authenticated) c.in_ok-judge_authenticated.was (compared (goal.at.returns c).After-number) c.if-finish-number.false
+    (rw size at (rw c.ciphertext_part-ciphertext.ensures at c.add_keystream.ensures)) in
+    rw (size, left) (record { opened = refl; demand1 = demand1_opening _ _ _ _ _; demand2 = demand2 _ _ _ _ _ (is-bytes (goal.at.returns c).After-judge_authenticated); demand3 = demand3 _ _ _ _ _; past = past-tag _ _ _ _ _ })
 
 pub returns-then-finish-number : goal.returns-then-finish-number
 returns-then-finish-number c =
-    let a = c.args in
-    let k = called a.tag_bits a.key.now a.nonce.now a.input.now a.out.now (is-bytes (goal.at.returns-then-finish-number c).After-judge_authenticated) (open_differs (checked (goal.at.returns-then-finish-number c).After-judge_authenticated) c.in_ok-judge_authenticated.was (compared (goal.at.returns-then-finish-number c).After-number) c.if-finish-number.true) in
-    record { opened = k.0; demand1 = k.1.0; demand2 = k.1.1.0; demand3 = k.1.1.1.0; past = k.1.1.1.1 }
+    let left = open_differs (checked (goal.at.returns-then-finish-number c).After-judge_authenticated) c.in_ok-judge_authenticated.was (compared (goal.at.returns-then-finish-number c).After-number) c.if-finish-number.true in
+    rw left (record { opened = refl; demand1 = demand1_opening _ _ _ _ _; demand2 = demand2 _ _ _ _ _ (is-bytes (goal.at.returns-then-finish-number c).After-judge_authenticated); demand3 = demand3 _ _ _ _ _; past = λ _ _ _ _ _ _. refl })

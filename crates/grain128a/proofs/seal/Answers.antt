@@ -1,36 +1,19 @@
 -- `grain128a::seal` meets its contract.
-use mathlib.Core.Path.{◌≡◌, sym, subst}
-use mathlib.Core.List.{List}
-use Prim.Native.Nat.{ℕ, ◌+◌, ◌≤◌}
+use mathlib.Core.Path.{◌≡◌, refl}
+use Prim.Native.Nat.{◌+◌, ◌≤◌}
 use native.Mathlib.Omega.{arith}
 use lib.ListN.{length}
 use Rattle.bits.proofs.Arrays.{unwrapped_same}
 use Rattle.bits.proofs.Written.{word-written}
-use Rattle.refusals.specs.Refusals.{among, passed}
-use Rattle.refusals.specs.Outcome.{Outcome}
+use Rattle.refusals.specs.Refusals.{passed}
 use Rattle.refusals.proofs.Returned.{handed_outcome}
 use Rattle.limits.specs.Limits.{message_limit}
-use Rattle.checks.specs.Demand1.{Demand1}
-use Rattle.mode_checks.specs.Order.{authenticated}
-use Rattle.grain128a.specs.Payload.{tag_size, payload}
-use Rattle.grain128a.specs.Calls.{sealing_rows, sealed}
-use Rattle.grain128a.specs.Demand2.{Legal, Sealing}
+use Rattle.grain128a.specs.Payload.{tag_size}
+use Rattle.grain128a.specs.Demand2.{Legal}
 use Rattle.grain128a.proofs.Demand2.{demand1_sealing, sealing}
 use Rattle.grain128a.proofs.Entry.{SealChecked, seal_failed, seal_legal, seal_passed}
 use Rattle.grain128a.proofs.seal.Goals.{After-judge_authenticated}
 use Rattle.grain128a.proofs.seal.Goals as goal
-
--- The call's three clauses from the first of them.
-called : (w : ℕ) (key nonce message out : List ℕ) {o : Outcome} → o ≡ sealed w key nonce message out
-    → (o ≡ sealed w key nonce message out)
-    × (Demand1 authenticated (among (sealing_rows w key nonce message out)) (payload w key nonce message) out o × Sealing w key nonce message out o)
-called w key nonce message out e = (
-  e,
-  (
-    subst (Demand1 authenticated (among (sealing_rows w key nonce message out)) (payload w key nonce message) out) (sym e) (demand1_sealing w key nonce message out),
-    subst (Sealing w key nonce message out) (sym e) (sealing w key nonce message out),
-  ),
-)
 
 checked : (j : After-judge_authenticated) →
     let a = j.args in
@@ -67,9 +50,8 @@ slice_bounds-spell-end c =
 
 pub returns-in_err-judge_authenticated : goal.returns-in_err-judge_authenticated
 returns-in_err-judge_authenticated c =
-    let a = c.args in
-    let k = called a.tag_bits a.key.now a.nonce.now a.message.now a.out.now (handed_outcome c.from_residual.result c.from_residual.ensures.1 (seal_failed (checked (goal.at.returns-in_err-judge_authenticated c).After-judge_authenticated) c.in_err-judge_authenticated.was)) in
-    record { sealed = k.0; demand1 = k.1.0; demand2 = k.1.1 }
+    let left = handed_outcome c.from_residual.result c.from_residual.ensures.1 (seal_failed (checked (goal.at.returns-in_err-judge_authenticated c).After-judge_authenticated) c.in_err-judge_authenticated.was) in
+    rw left (record { sealed = refl; demand1 = demand1_sealing _ _ _ _ _; demand2 = sealing _ _ _ _ _ })
 
 pub returns : goal.returns
 returns c =
@@ -77,8 +59,6 @@ returns c =
     let key_same = unwrapped_same c.try_into.ensures c.unwrap.ensures in
     let nonce_same = unwrapped_same c.try_into-2.ensures c.unwrap-2.ensures in
     let size = c.size-size.ensures in
-    let k = called a.tag_bits a.key.now a.nonce.now a.message.now a.out.now
-    (rw size
-    (seal_passed (checked (goal.at.returns c).After-judge_authenticated) c.in_ok-judge_authenticated.was (record { cuts = rw (key_same, nonce_same) at c.begin-begun.ensures }) c.encipher_all-done.ensures c.finish.ensures
-    (rw size at (word-written _ (length a.message.now) c.size-size.result c.finish.result (omega (arith, c.encipher_all-done.auto, (legal (goal.at.returns c).After-judge_authenticated c.in_ok-judge_authenticated.was).1, size)) c.spell.ensures)))) in
-    record { sealed = k.0; demand1 = k.1.0; demand2 = k.1.1 }
+    let left = seal_passed (checked (goal.at.returns c).After-judge_authenticated) c.in_ok-judge_authenticated.was (record { cuts = rw (key_same, nonce_same) at c.begin-begun.ensures }) c.encipher_all-done.ensures c.finish.ensures
+    (rw size at (word-written _ (length a.message.now) c.size-size.result c.finish.result (omega (arith, c.encipher_all-done.auto, (legal (goal.at.returns c).After-judge_authenticated c.in_ok-judge_authenticated.was).1, size)) c.spell.ensures)) in
+    rw (size, left) (record { sealed = refl; demand1 = demand1_sealing _ _ _ _ _; demand2 = sealing _ _ _ _ _ })

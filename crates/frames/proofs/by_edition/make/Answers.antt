@@ -1,35 +1,15 @@
 -- `frames::by_edition::make` meets its contract.
-use mathlib.Core.Path.{◌≡◌, sym, ap, ◌∙◌, subst}
-use mathlib.Core.List.{List}
-use Prim.Native.Nat.{ℕ, ◌+◌, ◌-◌}
+use mathlib.Core.Path.{◌≡◌, refl, ap, ◌∙◌}
+use Prim.Native.Nat.{◌+◌, ◌-◌}
 use native.Mathlib.Omega.{arith}
 use borrow.Rule.Slice.PartMut.{put_mid, same_len_mid}
 use lib.ListN.{length, set}
-use Rattle.refusals.specs.Refusals.{among}
-use Rattle.refusals.specs.Outcome.{Outcome}
 use Rattle.refusals.proofs.Returned.{handed_outcome}
-use Rattle.checks.specs.Demand1.{Demand1}
-use Rattle.machine.specs.declared.edition.Edition.{Edition}
-use Rattle.frame_checks.specs.Order as order
-use Rattle.frames.specs.Field.{frame_ad, data_field}
-use Rattle.frames.specs.Calls.{making_rows, made}
-use Rattle.frames.specs.Demand2.{Making}
+use Rattle.frames.specs.Field.{frame_ad}
 use Rattle.frames.proofs.Demand2.{demand1_making, making}
 use Rattle.frames.proofs.Entry.{set_room, part_kept, MakeChecked, make_failed, make_clear, make_holds, make_seals, make_passed}
 use Rattle.frames.proofs.by_edition.make.Goals.{After-judge_making, After-seal}
 use Rattle.frames.proofs.by_edition.make.Goals as goal
-
--- The call's three clauses from the first of them.
-called : (e : Edition) (key nonce : List ℕ) (identifier : ℕ) (message out : List ℕ) {o : Outcome} → o ≡ made e key nonce identifier message out
-    → (o ≡ made e key nonce identifier message out)
-    × (Demand1 order.making (among (making_rows key nonce identifier message out)) (data_field e key nonce identifier message) out o × Making e key nonce identifier message out o)
-called e key nonce identifier message out is = (
-  is,
-  (
-    subst (Demand1 order.making (among (making_rows key nonce identifier message out)) (data_field e key nonce identifier message) out) (sym is) (demand1_making e key nonce identifier message out),
-    subst (Making e key nonce identifier message out) (sym is) (making e key nonce identifier message out),
-  ),
-)
 
 checked : (j : After-judge_making) →
     let a = j.args in
@@ -78,8 +58,8 @@ slice_bounds-spell-end c =
 pub returns-in_err-judge_making : goal.returns-in_err-judge_making
 returns-in_err-judge_making c =
     let a = c.args in
-    let k = called a.edition a.key.now a.nonce.now a.identifier a.message.now a.out.now (handed_outcome c.from_residual.result c.from_residual.ensures.1 (make_failed (checked (goal.at.returns-in_err-judge_making c).After-judge_making) a.edition c.in_err-judge_making.was)) in
-    record { made = k.0; demand1 = k.1.0; demand2 = k.1.1 }
+    let left = handed_outcome c.from_residual.result c.from_residual.ensures.1 (make_failed (checked (goal.at.returns-in_err-judge_making c).After-judge_making) a.edition c.in_err-judge_making.was) in
+    rw left (record { made = refl; demand1 = demand1_making _ _ _ _ _ _; demand2 = making _ _ _ _ _ _ })
 
 pub shape_of-out : goal.shape_of-out
 shape_of-out c =
@@ -89,7 +69,6 @@ shape_of-out c =
 pub returns : goal.returns
 returns c =
     let a = c.args in
-    let k = called a.edition a.key.now a.nonce.now a.identifier a.message.now a.out.now
-    (make_passed (checked (goal.at.returns c).After-judge_making) c.in_ok-judge_making.was a.edition c.seal.new.out c.spell.new.out c.frame_ad-ad.result c.field_size-size.result
-    (c.frame_ad-ad.ensures ∙ ap (frame_ad a.identifier) c.field_code.ensures) c.field_size-size.ensures c.seal.ensures.sealed c.spell.ensures) in
-    record { made = k.0; demand1 = k.1.0; demand2 = k.1.1 }
+    let left = make_passed (checked (goal.at.returns c).After-judge_making) c.in_ok-judge_making.was a.edition c.seal.new.out c.spell.new.out c.frame_ad-ad.result c.field_size-size.result
+    (c.frame_ad-ad.ensures ∙ ap (frame_ad a.identifier) c.field_code.ensures) c.field_size-size.ensures c.seal.ensures.sealed c.spell.ensures in
+    rw left (record { made = refl; demand1 = demand1_making _ _ _ _ _ _; demand2 = making _ _ _ _ _ _ })

@@ -1,5 +1,5 @@
 -- `grain128aead::by_edition::open` meets its contract.
-use mathlib.Core.Path.{◌≡◌, sym, ap, ◌∙◌, subst}
+use mathlib.Core.Path.{◌≡◌, refl, ap, ◌∙◌}
 use mathlib.Core.List.{List}
 use Prim.Native.Nat.{ℕ, ◌+◌}
 use native.Mathlib.Omega.{arith}
@@ -8,19 +8,11 @@ use lib.ListN.{length}
 use Rattle.bits.specs.Bytes.{Bytes}
 use Rattle.bits.proofs.Arrays.{unwrapped_same}
 use Rattle.refusals.specs.Refusals.{Check}
-use Rattle.refusals.specs.Outcome.{Outcome}
 use Rattle.refusals.proofs.Returned.{handed_outcome}
-use Rattle.machine.specs.declared.edition.Edition.{Edition}
 use Rattle.tagged.proofs.Entry.{no_room}
 use Rattle.payload.specs.Sizes.{tag_size}
 use Rattle.limits.specs.Limits.{message_limit}
 use Rattle.grain128aead.specs.Sizes.{ad_limit}
-use Rattle.checks.specs.Order.{order}
-use Rattle.grain128aead.specs.Calls.{opening_row, recovered, opened}
-use Rattle.checks.specs.Demand1.{Demand1}
-use Rattle.grain128aead.specs.Demand2.{Demand2}
-use Rattle.grain128aead.specs.Demand3.{Demand3}
-use Rattle.grain128aead.specs.Substitution.{Substitution}
 use Rattle.grain128aead.proofs.Demand2.{demand1_opening, demand2}
 use Rattle.grain128aead.proofs.Demand3.{demand3}
 use Rattle.grain128aead.proofs.Substitution.{substitution}
@@ -28,24 +20,6 @@ use Rattle.grain128aead.proofs.Entry.{OpenChecked, Compared, open_failed, open_c
 use Rattle.grain128aead.proofs.Settled.{judgement, opening_judgement}
 use Rattle.grain128aead.proofs.by_edition.open.Goals.{After-judge, After-number}
 use Rattle.grain128aead.proofs.by_edition.open.Goals as goal
-
--- The call's five clauses from the first of them.
-called : (ed : Edition) (key nonce ad input out : List ℕ) {o : Outcome} → Bytes input → o ≡ opened ed key nonce ad input out
-    → (o ≡ opened ed key nonce ad input out)
-    × (Demand1 order (opening_row ed key nonce ad input out) (recovered ed key nonce ad input) out o × (Demand2 ed key nonce ad input out o × (Demand3 ed key nonce ad input out o × Substitution ed key nonce ad input out o)))
-called ed key nonce ad input out b e = (
-  e,
-  (
-    subst (Demand1 order (opening_row ed key nonce ad input out) (recovered ed key nonce ad input) out) (sym e) (demand1_opening ed key nonce ad input out),
-    (
-      subst (Demand2 ed key nonce ad input out) (sym e) (demand2 ed key nonce ad input out b),
-      (
-        subst (Demand3 ed key nonce ad input out) (sym e) (demand3 ed key nonce ad input out),
-        subst (Substitution ed key nonce ad input out) (sym e) (substitution ed key nonce ad input out b),
-      ),
-    ),
-  ),
-)
 
 sized : (key nonce ad input lent : List ℕ) {c : Check} → c ≡ judgement key nonce ad (ltb (message_limit + tag_size) (length input)) (ltb (length input) tag_size) (ltb (length lent + 8) (length input)) → c ≡ opening_judgement key nonce ad input lent
 sized key nonce ad input lent e = e ∙ ap (judgement key nonce ad (ltb (message_limit + tag_size) (length input)) (ltb (length input) tag_size)) (no_room tag_size (length lent) (length input))
@@ -93,18 +67,18 @@ overflow_sub-result c =
 pub returns-in_err-judge : goal.returns-in_err-judge
 returns-in_err-judge c =
     let a = c.args in
-    let k = called a.edition a.key.now a.nonce.now a.ad.now a.input.now a.out.now (is-bytes (goal.at.returns-in_err-judge c).After-judge) (handed_outcome c.from_residual.result c.from_residual.ensures.1 (open_failed (checked (goal.at.returns-in_err-judge c).After-judge) a.edition c.in_err-judge.was)) in
-    record { opened = k.0; demand1 = k.1.0; demand2 = k.1.1.0; demand3 = k.1.1.1.0; substitution = k.1.1.1.1 }
+    let is_bytes = is-bytes (goal.at.returns-in_err-judge c).After-judge in
+    let left = handed_outcome c.from_residual.result c.from_residual.ensures.1 (open_failed (checked (goal.at.returns-in_err-judge c).After-judge) a.edition c.in_err-judge.was) in
+    rw left (record { opened = refl; demand1 = demand1_opening _ _ _ _ _ _; demand2 = demand2 _ _ _ _ _ _ is_bytes; demand3 = demand3 _ _ _ _ _ _; substitution = substitution _ _ _ _ _ _ is_bytes })
 
 pub returns : goal.returns
 returns c =
-    let a = c.args in
-    let k = called a.edition a.key.now a.nonce.now a.ad.now a.input.now a.out.now (is-bytes (goal.at.returns c).After-judge)
-    (open_passed (checked (goal.at.returns c).After-judge) c.in_ok-judge.was (compared (goal.at.returns c).After-number) c.if-finish-number.false (rw c.ciphertext_part-ciphertext.ensures at c.add_keystream.ensures)) in
-    record { opened = k.0; demand1 = k.1.0; demand2 = k.1.1.0; demand3 = k.1.1.1.0; substitution = k.1.1.1.1 }
+    let is_bytes = is-bytes (goal.at.returns c).After-judge in
+    let left = open_passed (checked (goal.at.returns c).After-judge) c.in_ok-judge.was (compared (goal.at.returns c).After-number) c.if-finish-number.false (rw c.ciphertext_part-ciphertext.ensures at c.add_keystream.ensures) in
+    rw left (record { opened = refl; demand1 = demand1_opening _ _ _ _ _ _; demand2 = demand2 _ _ _ _ _ _ is_bytes; demand3 = demand3 _ _ _ _ _ _; substitution = substitution _ _ _ _ _ _ is_bytes })
 
 pub returns-then-finish-number : goal.returns-then-finish-number
 returns-then-finish-number c =
-    let a = c.args in
-    let k = called a.edition a.key.now a.nonce.now a.ad.now a.input.now a.out.now (is-bytes (goal.at.returns-then-finish-number c).After-judge) (open_differs (checked (goal.at.returns-then-finish-number c).After-judge) c.in_ok-judge.was (compared (goal.at.returns-then-finish-number c).After-number) c.if-finish-number.true) in
-    record { opened = k.0; demand1 = k.1.0; demand2 = k.1.1.0; demand3 = k.1.1.1.0; substitution = k.1.1.1.1 }
+    let is_bytes = is-bytes (goal.at.returns-then-finish-number c).After-judge in
+    let left = open_differs (checked (goal.at.returns-then-finish-number c).After-judge) c.in_ok-judge.was (compared (goal.at.returns-then-finish-number c).After-number) c.if-finish-number.true in
+    rw left (record { opened = refl; demand1 = demand1_opening _ _ _ _ _ _; demand2 = demand2 _ _ _ _ _ _ is_bytes; demand3 = demand3 _ _ _ _ _ _; substitution = substitution _ _ _ _ _ _ is_bytes })

@@ -1,37 +1,16 @@
 -- `grain128aead::by_edition::seal` meets its contract.
-use mathlib.Core.Path.{◌≡◌, sym, subst}
-use mathlib.Core.List.{List}
-use Prim.Native.Nat.{ℕ}
+use mathlib.Core.Path.{refl}
 use native.Mathlib.Omega.{arith}
 use lib.ListN.{length}
 use Rattle.bits.proofs.Arrays.{unwrapped_same}
 use Rattle.bits.proofs.Written.{word-written}
-use Rattle.refusals.specs.Outcome.{Outcome}
 use Rattle.refusals.proofs.Returned.{handed_outcome}
-use Rattle.machine.specs.declared.edition.Edition.{Edition}
-use Rattle.payload.specs.Payload.{payload}
 use Rattle.limits.specs.Limits.{message_limit}
 use Rattle.grain128aead.specs.Sizes.{ad_limit}
-use Rattle.checks.specs.Order.{order}
-use Rattle.grain128aead.specs.Calls.{sealing_row, sealed}
-use Rattle.checks.specs.Demand1.{Demand1}
-use Rattle.grain128aead.specs.Demand2.{Sealing}
 use Rattle.grain128aead.proofs.Demand2.{demand1_sealing, sealing}
 use Rattle.grain128aead.proofs.Entry.{SealChecked, seal_failed, seal_clear, seal_room, seal_passed}
 use Rattle.grain128aead.proofs.by_edition.seal.Goals.{After-judge}
 use Rattle.grain128aead.proofs.by_edition.seal.Goals as goal
-
--- The call's three clauses from the first of them.
-called : (ed : Edition) (key nonce ad message out : List ℕ) {o : Outcome} → o ≡ sealed ed key nonce ad message out
-    → (o ≡ sealed ed key nonce ad message out)
-    × (Demand1 order (sealing_row key nonce ad message out) (payload ed key nonce ad message) out o × Sealing ed key nonce ad message out o)
-called ed key nonce ad message out e = (
-  e,
-  (
-    subst (Demand1 order (sealing_row key nonce ad message out) (payload ed key nonce ad message) out) (sym e) (demand1_sealing ed key nonce ad message out),
-    subst (Sealing ed key nonce ad message out) (sym e) (sealing ed key nonce ad message out),
-  ),
-)
 
 checked : (j : After-judge) →
     let a = j.args in
@@ -59,16 +38,14 @@ slice_bounds-spell-end c =
 pub returns-in_err-judge : goal.returns-in_err-judge
 returns-in_err-judge c =
     let a = c.args in
-    let k = called a.edition a.key.now a.nonce.now a.ad.now a.message.now a.out.now
-    (handed_outcome c.from_residual.result c.from_residual.ensures.1 (seal_failed (checked (goal.at.returns-in_err-judge c).After-judge) a.edition c.in_err-judge.was)) in
-    record { sealed = k.0; demand1 = k.1.0; demand2 = k.1.1 }
+    let left = handed_outcome c.from_residual.result c.from_residual.ensures.1 (seal_failed (checked (goal.at.returns-in_err-judge c).After-judge) a.edition c.in_err-judge.was) in
+    rw left (record { sealed = refl; demand1 = demand1_sealing _ _ _ _ _ _; demand2 = sealing _ _ _ _ _ _ })
 
 pub returns : goal.returns
 returns c =
     let a = c.args in
     let key_same = unwrapped_same c.try_into.ensures c.unwrap.ensures in
     let nonce_same = unwrapped_same c.try_into-2.ensures c.unwrap-2.ensures in
-    let k = called a.edition a.key.now a.nonce.now a.ad.now a.message.now a.out.now
-    (seal_passed (checked (goal.at.returns c).After-judge) c.in_ok-judge.was a.edition c.begin-begun.result c.encipher_all-done.result c.finish.result
-    (rw (key_same, nonce_same) at c.begin-begun.ensures) c.encipher_all-done.ensures c.finish.ensures (word-written _ (length a.message.now) 8 c.finish.result (omega (arith, c.encipher_all-done.auto, seal_room (checked (goal.at.returns c).After-judge) c.in_ok-judge.was)) c.spell.ensures)) in
-    record { sealed = k.0; demand1 = k.1.0; demand2 = k.1.1 }
+    let left = seal_passed (checked (goal.at.returns c).After-judge) c.in_ok-judge.was a.edition c.begin-begun.result c.encipher_all-done.result c.finish.result
+    (rw (key_same, nonce_same) at c.begin-begun.ensures) c.encipher_all-done.ensures c.finish.ensures (word-written _ (length a.message.now) 8 c.finish.result (omega (arith, c.encipher_all-done.auto, seal_room (checked (goal.at.returns c).After-judge) c.in_ok-judge.was)) c.spell.ensures) in
+    rw left (record { sealed = refl; demand1 = demand1_sealing _ _ _ _ _ _; demand2 = sealing _ _ _ _ _ _ })
