@@ -27,10 +27,8 @@ use Rattle.streams.proofs.Demand1.{demand1}
 use Rattle.streams.proofs.Settled.{GoesOn, judgement_of, wrong_tag, state-sized, called_unsound, called_failed, called_passed, called_differs, put_step, begin_judgement, begins, begin_failed, begin_passed}
 
 -- The three clauses of a call.
-pub record Answered (c : Call) (s : List ℕ) (a : Answer) (exit out : List ℕ) : Type 0 where
-  pub called : step a exit out ≡ called c s
-  pub demand1 : Demand1 c s (step a exit out)
-  pub fits : capped a ≡ a
+abbrev pub Answered : (c : Call) (s : List ℕ) (a : Answer) (exit out : List ℕ) → Type 0
+Answered c s a exit out = record { called : step a exit out ≡ called c s; demand1 : Demand1 c s (step a exit out); fits : capped a ≡ a }
 
 module _ (c : Call) {s : List ℕ} where
   answered : {a : Answer} {exit out : List ℕ} → step a exit out ≡ called c s → capped a ≡ a → Answered c s a exit out

@@ -12,14 +12,12 @@ use Rattle.streams.proofs.ad.Goals as goal
 
 pub returns-in_err-x : goal.returns-in_err-x
 returns-in_err-x c =
-    let k = unsound (Ad c.args.kind c.args.piece.now) tt c.from_residual.result c.from_residual.ensures.1 c.in_err-x.ensures in
-    record { called = k.called; demand1 = k.demand1; fits = k.fits }
+    unsound (Ad c.args.kind c.args.piece.now) tt c.from_residual.result c.from_residual.ensures.1 c.in_err-x.ensures
 
 pub returns-in_err-judge : goal.returns-in_err-judge
 returns-in_err-judge c =
     let judged = rw c.ad_out_of_turn-out_of_turn.ensures at c.judge.ensures in
-    let k = failed (Ad c.args.kind c.args.piece.now) tt c.in_ok-x.ensures judged c.from_residual-in_err-judge.result c.from_residual-in_err-judge.ensures.1 c.in_err-judge.was in
-    record { called = k.called; demand1 = k.demand1; fits = k.fits }
+    failed (Ad c.args.kind c.args.piece.now) tt c.in_ok-x.ensures judged c.from_residual-in_err-judge.result c.from_residual-in_err-judge.ensures.1 c.in_err-judge.was
 
 pub more_ad-counts-requires : goal.more_ad-counts-requires
 more_ad-counts-requires c =
@@ -31,5 +29,4 @@ pub returns : goal.returns
 unfolding stream_of state_of
 returns c =
     let judged = rw c.ad_out_of_turn-out_of_turn.ensures at c.judge.ensures in
-    let k = goes_on (Ad c.args.kind c.args.piece.now) tt c.in_ok-x.ensures judged c.in_ok-judge.was refl _ (λ i. record { machine = c.absorb_all-engine.ensures i; counts = c.more_ad-counts.ensures i }) refl c.put.ensures.counted c.put.ensures.stored c.put.ensures.fits in
-    record { called = k.called; demand1 = k.demand1; fits = k.fits }
+    goes_on (Ad c.args.kind c.args.piece.now) tt c.in_ok-x.ensures judged c.in_ok-judge.was refl _ (λ i. record { machine = c.absorb_all-engine.ensures i; counts = c.more_ad-counts.ensures i }) refl c.put.ensures.counted c.put.ensures.stored c.put.ensures.fits

@@ -12,8 +12,7 @@ pub returns-in_err-judge_begin : goal.returns-in_err-judge_begin
 unfolding ad_limit
 returns-in_err-judge_begin c =
     let judged = rw c.known-unknown.ensures at c.judge_begin.ensures in
-    let k = not_begun {kind = c.args.kind} judged c.from_residual.result c.from_residual.ensures.1 c.in_err-judge_begin.was in
-    record { called = k.called; demand1 = k.demand1; fits = k.fits }
+    not_begun {kind = c.args.kind} judged c.from_residual.result c.from_residual.ensures.1 c.in_err-judge_begin.was
 
 pub unwrap-requires : goal.unwrap-requires
 unfolding ad_limit
@@ -42,5 +41,4 @@ returns c =
     let judged = rw c.known-unknown.ensures at c.judge_begin.ensures in
     let key_same = unwrapped_same c.try_into.ensures c.unwrap.ensures in
     let nonce_same = unwrapped_same c.try_into-2.ensures c.unwrap-2.ensures in
-    let k = began {kind = a.kind} judged c.in_ok-judge_begin.was _ (starts a.kind a.key.now a.nonce.now a.announced c.start-engine.result c.named.ensures (rw (key_same, nonce_same) at c.start-engine.ensures) c.number.ensures) c.put.ensures.counted c.put.ensures.stored c.put.ensures.fits in
-    record { called = k.called; demand1 = k.demand1; fits = k.fits }
+    began {kind = a.kind} judged c.in_ok-judge_begin.was _ (starts a.kind a.key.now a.nonce.now a.announced c.start-engine.result c.named.ensures (rw (key_same, nonce_same) at c.start-engine.ensures) c.number.ensures) c.put.ensures.counted c.put.ensures.stored c.put.ensures.fits

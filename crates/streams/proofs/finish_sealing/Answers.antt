@@ -13,15 +13,13 @@ use Rattle.streams.proofs.finish_sealing.Goals as goal
 
 pub returns-in_err-x : goal.returns-in_err-x
 returns-in_err-x c =
-    let k = unsound (FinishSealing c.args.out.now) tt c.from_residual.result c.from_residual.ensures.1 c.in_err-x.ensures in
-    record { called = k.called; demand1 = k.demand1; fits = k.fits }
+    unsound (FinishSealing c.args.out.now) tt c.from_residual.result c.from_residual.ensures.1 c.in_err-x.ensures
 
 pub returns-in_err-judge : goal.returns-in_err-judge
 unfolding message_limit
 returns-in_err-judge c =
     let judged = rw c.out_of_turn-out_of_turn.ensures at c.judge.ensures in
-    let k = failed (FinishSealing c.args.out.now) tt c.in_ok-x.ensures judged c.from_residual-in_err-judge.result c.from_residual-in_err-judge.ensures.1 c.in_err-judge.was in
-    record { called = k.called; demand1 = k.demand1; fits = k.fits }
+    failed (FinishSealing c.args.out.now) tt c.in_ok-x.ensures judged c.from_residual-in_err-judge.result c.from_residual-in_err-judge.ensures.1 c.in_err-judge.was
 
 pub slice_bounds-spell-end : goal.slice_bounds-spell-end
 slice_bounds-spell-end c =
@@ -38,6 +36,5 @@ returns c =
     let a = c.args in
     let judged = rw c.out_of_turn-out_of_turn.ensures at c.judge.ensures in
     let room = ltb-false (length a.out.now) tag_size (passed_clear _ _ _ _ (sym judged ∙ c.in_ok-judge.was)).room in
-    let k = goes_on (FinishSealing a.out.now) tt c.in_ok-x.ensures judged c.in_ok-judge.was refl c.ended.result c.ended.ensures
-    (tag-output c.in_ok-x.x c.finish.result c.finish.ensures a.out.now room c.spell.ensures) c.put.ensures.counted c.put.ensures.stored c.put.ensures.fits in
-    record { called = k.called; demand1 = k.demand1; fits = k.fits }
+    goes_on (FinishSealing a.out.now) tt c.in_ok-x.ensures judged c.in_ok-judge.was refl c.ended.result c.ended.ensures
+    (tag-output c.in_ok-x.x c.finish.result c.finish.ensures a.out.now room c.spell.ensures) c.put.ensures.counted c.put.ensures.stored c.put.ensures.fits

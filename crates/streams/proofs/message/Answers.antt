@@ -11,15 +11,13 @@ use Rattle.streams.proofs.message.Goals as goal
 
 pub returns-in_err-x : goal.returns-in_err-x
 returns-in_err-x c =
-    let k = unsound (Message c.args.piece.now c.args.out.now) tt c.from_residual.result c.from_residual.ensures.1 c.in_err-x.ensures in
-    record { called = k.called; demand1 = k.demand1; fits = k.fits }
+    unsound (Message c.args.piece.now c.args.out.now) tt c.from_residual.result c.from_residual.ensures.1 c.in_err-x.ensures
 
 pub returns-in_err-judge : goal.returns-in_err-judge
 unfolding message_limit
 returns-in_err-judge c =
     let judged = rw (c.too_long-too_long.ensures, c.out_of_turn-out_of_turn.ensures) at c.judge.ensures in
-    let k = failed (Message c.args.piece.now c.args.out.now) tt c.in_ok-x.ensures judged c.from_residual-in_err-judge.result c.from_residual-in_err-judge.ensures.1 c.in_err-judge.was in
-    record { called = k.called; demand1 = k.demand1; fits = k.fits }
+    failed (Message c.args.piece.now c.args.out.now) tt c.in_ok-x.ensures judged c.from_residual-in_err-judge.result c.from_residual-in_err-judge.ensures.1 c.in_err-judge.was
 
 pub more_message-counts-requires : goal.more_message-counts-requires
 unfolding message_limit
@@ -33,7 +31,6 @@ returns c =
     let a = c.args in
     let judged = rw (c.too_long-too_long.ensures, c.out_of_turn-out_of_turn.ensures) at c.judge.ensures in
     let room = ltb-false (length a.out.now) (length a.piece.now) (passed_clear _ _ _ _ (sym judged ∙ c.in_ok-judge.was)).room in
-    let k = goes_on (Message a.piece.now a.out.now) tt c.in_ok-x.ensures judged c.in_ok-judge.was refl _
+    goes_on (Message a.piece.now a.out.now) tt c.in_ok-x.ensures judged c.in_ok-judge.was refl _
     (enciphered c.in_ok-x.x a.piece.now c.encipher_all-engine.result c.more_message-counts.result room c.encipher_all-engine.ensures c.more_message-counts.ensures)
-    (enciphered-output c.in_ok-x.x a.piece.now c.encipher_all-engine.result c.more_message-counts.result room c.encipher_all-engine.ensures) c.put.ensures.counted c.put.ensures.stored c.put.ensures.fits in
-    record { called = k.called; demand1 = k.demand1; fits = k.fits }
+    (enciphered-output c.in_ok-x.x a.piece.now c.encipher_all-engine.result c.more_message-counts.result room c.encipher_all-engine.ensures) c.put.ensures.counted c.put.ensures.stored c.put.ensures.fits
