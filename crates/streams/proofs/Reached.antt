@@ -38,7 +38,6 @@ use Rattle.grain128aead.specs.Sizes.{ad_limit}
 use Rattle.grain128aead.proofs.Entry.{tag-run}
 use Rattle.stream_checks.specs.declared.counts.Kind.{Kind}
 use Rattle.stream_checks.specs.declared.counts.Kind.TheVariants.{Sealing, Checking}
-use Rattle.stream_checks.specs.Counts.{number}
 use Rattle.stream_state.specs.Stream.{bits_taken, clocks_so_far}
 use Rattle.streams.specs.Going as going_on
 use Rattle.streams.specs.Going.{is_sealing, through, with_ad, with_text, cipher, finished, tag_of}
@@ -166,13 +165,7 @@ begun-reached h unended no_ad none = λ i. record { machine = machines i; counts
     machines = sym (machine-ad h unended none ∙ ap (λ (s : List Bool). run (start h) (coded ++ s)) (ap (bits_in (e h)) no_ad ∙ no_bits (e h)) ∙ ap (run (start h)) (append-nil coded))
 
     counts : (going_on.begun h.kind h.edition h.key h.nonce h.announced).counts ≡ (reached h).counts
-    counts = unfold reached in (λ i. record {
-      kind = number h.kind;
-      phase = sym (ap digit unended) i;
-      announced = h.announced;
-      ad = sym (ap length no_ad) i;
-      message = sym (ap length none) i;
-    })
+    counts = unfold reached in (λ i. record (reached h).counts { phase = sym (ap digit unended) i; ad = sym (ap length no_ad) i; message = sym (ap length none) i })
 
 -- A piece of AD, with no message yet.
 pub ad_goes_on : (h : History) (piece output : List ℕ) → h.ended ≡ false → h.text ≡ [] → with_ad (reached h) piece ≡ reached (with h (h.ad ++ piece) h.text output h.ended h.tag)
@@ -189,13 +182,7 @@ ad_goes_on h piece output unended none = λ i. record { machine = machines i; co
         ∙ run-append (start h) _ (bits_in (e h) piece))
 
     counts : (with_ad (reached h) piece).counts ≡ (reached h').counts
-    counts = unfold reached in (λ i. record {
-      kind = number h.kind;
-      phase = digit h.ended;
-      announced = h.announced;
-      ad = sym (length-append h.ad piece) i;
-      message = length h.text;
-    })
+    counts = unfold reached in (λ i. record (reached h).counts { ad = sym (length-append h.ad piece) i })
 
 -- An empty piece of AD, whatever the message.
 pub ad-stays : (h : History) (output : List ℕ) → with_ad (reached h) [] ≡ reached (with h (h.ad ++ []) h.text output h.ended h.tag)
@@ -206,13 +193,7 @@ ad-stays h output = (λ i. record { machine = machines i; counts = counts i }) �
     machines = unfold run in (ap (run (reached h).machine) (no_bits (reached h).machine.edition))
 
     counts : (with_ad (reached h) []).counts ≡ (reached h).counts
-    counts = unfold reached in (λ i. record {
-      kind = number h.kind;
-      phase = digit h.ended;
-      announced = h.announced;
-      ad = add-zero (length h.ad) i;
-      message = length h.text;
-    })
+    counts = unfold reached in (λ i. record (reached h).counts { ad = add-zero (length h.ad) i })
 
 -- The machine goes through a piece of text as the strings below do.
 by_kind : (k : Kind) (st : State) (s : List Bool) → through k st s ≡ strings.through (is_sealing k) st s
@@ -239,13 +220,7 @@ module _ (h : History) (piece output : List ℕ) (unended : h.ended ≡ false) (
           ∙ sym (machine-text next unended full)
 
       counts : (with_text h.kind (reached h) piece).counts ≡ (reached next).counts
-      counts = unfold reached in (λ i. record {
-        kind = number h.kind;
-        phase = digit h.ended;
-        announced = h.announced;
-        ad = length h.ad;
-        message = sym (length-append h.text piece) i;
-      })
+      counts = unfold reached in (λ i. record (reached h).counts { message = sym (length-append h.text piece) i })
 
   -- Its ciphertext when sealing.
   pub cipher_goes_on : h.kind ≡ Sealing → ciphertext (e h) h.key h.nonce h.ad h.text ++ cipher (reached h) piece ≡ ciphertext (e h) h.key h.nonce h.ad (h.text ++ piece)
