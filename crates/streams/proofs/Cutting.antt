@@ -27,7 +27,7 @@ use Rattle.limits.specs.Limits.{message_limit}
 use Rattle.grain128aead.specs.Sizes.{ad_limit}
 use Rattle.stream_checks.specs.declared.counts.Kind.{Kind}
 use Rattle.stream_checks.specs.declared.counts.Kind.TheVariants.{Sealing, Checking}
-use Rattle.stream_checks.specs.Counts.{number, out_of_turn, too_long}
+use Rattle.stream_checks.specs.Counts.{number, ad_out_of_turn, out_of_turn, too_long}
 use Rattle.stream_checks.proofs.Turns.{ad-in_turn, in_turn_lem, can_occur_lem}
 use Rattle.stream_state.specs.Stream.{Stream, clocks_so_far}
 use Rattle.stream_state.specs.Layout as layout
@@ -39,7 +39,7 @@ use Rattle.streams.specs.Calls.{Call, Begin, Ad, Message, Ciphertext, FinishSeal
 use Rattle.streams.specs.History.{History, Play, fresh, with, accepting, after, play, played, message, reached, clocks_of}
 use Rattle.streams.specs.Cutting.{Legal, handed_out}
 use Rattle.streams.proofs.Reached.{clocked, begun-reached, ad_goes_on, ad-stays, text_goes_on, cipher_goes_on, finish_goes_on, tag-reached}
-use Rattle.streams.proofs.Settled.{judgement, passed_clear, judgement_of, wrong_tag, GoesOn, on_stream_lem, begin_judgement, begins, Begins, called-begin}
+use Rattle.streams.proofs.Settled.{passed_clear, judgement_of, wrong_tag, GoesOn, on_stream_lem, begin_judgement, begins, Begins, called-begin}
 
 -- ---- what holds of a history
 
@@ -90,15 +90,29 @@ legal-with h l ad behind text ended = record {
 
 -- ---- a call that is accepted
 
-pub not-ended : (b : Bool) → digit b ≡ 0 → b ≡ false
+not-ended : (b : Bool) → digit b ≡ 0 → b ≡ false
 not-ended true h = absurd (omega arith)
 not-ended false h = refl
 
-pub same_kind : (k kind : Kind) → number k ≡ number kind → k ≡ kind
+same_kind : (k kind : Kind) → number k ≡ number kind → k ≡ kind
 same_kind Sealing Sealing h = refl
 same_kind Sealing Checking h = absurd (omega arith)
 same_kind Checking Sealing h = absurd (omega arith)
 same_kind Checking Checking h = refl
+
+-- A call on the stream that is reached is in its turn: message, ciphertext and finish; and a piece of AD of n bytes.
+pub record TurnOf (h : History) (kind : Kind) : Type 0 where
+  pub kinds : h.kind ≡ kind
+  pub unended : h.ended ≡ false
+  pub full : length h.ad ≡ h.announced
+
+pub turn_of : (h : History) (kind : Kind) → out_of_turn kind (reached h).counts ≡ false → TurnOf h kind
+unfolding reached
+turn_of h kind o = let i = in_turn_lem kind (reached h).counts o in record { kinds = same_kind h.kind kind i.0.kinds; unended = not-ended h.ended i.0.unended; full = i.1 }
+
+pub ad_turn_of : (h : History) (kind : Kind) (n : ℕ) → ad_out_of_turn kind (reached h).counts n ≡ false → (h.kind ≡ kind) × (h.ended ≡ false) × (length h.ad + n ≤ h.announced)
+unfolding reached
+ad_turn_of h kind n o = let i = ad-in_turn kind (reached h).counts n o in (same_kind h.kind kind i.0.kinds, not-ended h.ended i.0.unended, i.1)
 
 empty : (s : List ℕ) → length s ≡ 0 → s ≡ []
 empty [] h = refl
@@ -150,31 +164,16 @@ module _ (h : History) (k : Kept h) where
 
   ad_leads : (kind : Kind) (piece : List ℕ) → judgement_of (Ad kind piece) (reached h).counts ≡ passed → LeadsOn (Ad kind piece)
   ad_leads kind piece passed =
-      let turn = turned in
-      ⊎_elim (λ (none : h.text ≡ []). ad-first kind piece turn.0 turn.1 none)
-      (λ (full : length h.ad ≡ h.announced). let z : length piece ≡ 0 = omega (arith, full, turn.1) in ad_empty kind piece (empty piece z)) k.legal.text_behind_ad
-    where
-      turned : (h.ended ≡ false) × (length h.ad + length piece ≤ h.announced)
-      turned = unfold reached in (let i = ad-in_turn kind (reached h).counts (length piece) (passed_clear _ _ _ _ passed).in_turn in (not-ended h.ended i.0.unended, i.1))
-
-  -- What is known of a piece of text, and of finish, that is in its turn.
-  record InTurn (kind : Kind) : Type 0 where
-    pub kinds : number h.kind ≡ number kind
-    pub unended : h.ended ≡ false
-    pub full : length h.ad ≡ h.announced
-
-  turned : (kind : Kind) (too_long wrong_size no_room : Bool) → judgement (out_of_turn kind (reached h).counts) too_long wrong_size no_room ≡ passed → InTurn kind
-  unfolding reached
-  turned kind too_long wrong_size no_room passed =
-      let i = in_turn_lem kind (reached h).counts (passed_clear _ _ _ _ passed).in_turn in
-      record { kinds = i.0.kinds; unended = not-ended h.ended i.0.unended; full = i.1 }
+      let turn = ad_turn_of h kind (length piece) (passed_clear _ _ _ _ passed).in_turn in
+      ⊎_elim (λ (none : h.text ≡ []). ad-first kind piece turn.1 turn.2 none)
+      (λ (full : length h.ad ≡ h.announced). let z : length piece ≡ 0 = omega (arith, full, turn.2) in ad_empty kind piece (empty piece z)) k.legal.text_behind_ad
 
   fitting : (piece : List ℕ) → too_long message_limit (reached h).counts (length piece) ≡ false → length (h.text ++ piece) ≤ message_limit
   unfolding reached
   fitting piece fits = omega (arith, length-append h.text piece, ltb-false message_limit (length h.text + length piece) fits)
 
   -- A piece of text.
-  text_kept : (piece output : List ℕ) {kind : Kind} → InTurn kind → length (h.text ++ piece) ≤ message_limit
+  text_kept : (piece output : List ℕ) {kind : Kind} → TurnOf h kind → length (h.text ++ piece) ≤ message_limit
       → output ≡ handed_out h.kind (with h h.ad (h.text ++ piece) output h.ended h.tag) → Kept (with h h.ad (h.text ++ piece) output h.ended h.tag)
   text_kept piece output i fits handed = record {
     legal = legal-with h k.legal k.legal.ad_fits (inr i.full) (fits) (λ ended. i.full);
@@ -184,36 +183,30 @@ module _ (h : History) (k : Kept h) where
 
   message_leads : (piece out : List ℕ) → judgement_of (Message piece out) (reached h).counts ≡ passed → LeadsOn (Message piece out)
   message_leads piece out passed = record {
-    same = ap (λ (kind : Kind). with_text kind (reached h) piece) (sym sealing) ∙ text_goes_on h piece output i.unended i.full;
+    same = ap (λ (kind : Kind). with_text kind (reached h) piece) (sym i.kinds) ∙ text_goes_on h piece output i.unended i.full;
     kept = text_kept piece output i (fitting piece (passed_clear _ _ _ _ passed).fits) handed;
   }
     where
-      i : InTurn Sealing
-      i = turned Sealing _ _ _ passed
-
-      sealing : h.kind ≡ Sealing
-      sealing = same_kind h.kind Sealing i.kinds
+      i : TurnOf h Sealing
+      i = turn_of h Sealing (passed_clear _ _ _ _ passed).in_turn
 
       output : List ℕ
       output = h.output ++ take (length piece) (output_of_lem (Message piece out))
 
       handed : output ≡ handed_out h.kind (with h h.ad (h.text ++ piece) output h.ended h.tag)
       handed =
-          ap₂ ◌++◌ (k.output ∙ ap (λ (kind : Kind). handed_out kind h) sealing) (take_at (cipher (reached h) piece) _ (length piece) (length-bytes_in (reached h).machine.edition (length piece) _))
-          ∙ cipher_goes_on h piece output i.unended i.full sealing
-          ∙ sym (ap (λ (kind : Kind). handed_out kind (with h h.ad (h.text ++ piece) output h.ended h.tag)) sealing)
+          ap₂ ◌++◌ (k.output ∙ ap (λ (kind : Kind). handed_out kind h) i.kinds) (take_at (cipher (reached h) piece) _ (length piece) (length-bytes_in (reached h).machine.edition (length piece) _))
+          ∙ cipher_goes_on h piece output i.unended i.full i.kinds
+          ∙ sym (ap (λ (kind : Kind). handed_out kind (with h h.ad (h.text ++ piece) output h.ended h.tag)) i.kinds)
 
   ciphertext_leads : (piece : List ℕ) → judgement_of (Ciphertext piece) (reached h).counts ≡ passed → LeadsOn (Ciphertext piece)
   ciphertext_leads piece passed = record {
-    same = ap (λ (kind : Kind). with_text kind (reached h) piece) (sym checking) ∙ text_goes_on h piece (h.output ++ []) i.unended i.full;
-    kept = text_kept piece (h.output ++ []) i (fitting piece (passed_clear _ _ _ _ passed).fits) (append-nil h.output ∙ k.output ∙ handed h.kind checking);
+    same = ap (λ (kind : Kind). with_text kind (reached h) piece) (sym i.kinds) ∙ text_goes_on h piece (h.output ++ []) i.unended i.full;
+    kept = text_kept piece (h.output ++ []) i (fitting piece (passed_clear _ _ _ _ passed).fits) (append-nil h.output ∙ k.output ∙ handed h.kind i.kinds);
   }
     where
-      i : InTurn Checking
-      i = turned Checking _ _ _ passed
-
-      checking : h.kind ≡ Checking
-      checking = same_kind h.kind Checking i.kinds
+      i : TurnOf h Checking
+      i = turn_of h Checking (passed_clear _ _ _ _ passed).in_turn
 
       h' : History
       h' = with h h.ad (h.text ++ piece) (h.output ++ []) h.ended h.tag
@@ -223,7 +216,7 @@ module _ (h : History) (k : Kept h) where
       handed Checking e = refl
 
   -- Finish.
-  finish_leads : (kind : Kind) (output given : List ℕ) → InTurn kind → output ≡ h.output → given ≡ tag_of (reached h) → Leads (finished (reached h)) (with h h.ad h.text output true given)
+  finish_leads : (kind : Kind) (output given : List ℕ) → TurnOf h kind → output ≡ h.output → given ≡ tag_of (reached h) → Leads (finished (reached h)) (with h h.ad h.text output true given)
   finish_leads kind output given i written right = record {
     same = finish_goes_on h i.unended output given;
     kept = record {
@@ -244,9 +237,9 @@ module _ (h : History) (k : Kept h) where
   leads_on (Message piece out) on clear right = message_leads piece out clear
   leads_on (Ciphertext piece) on clear right = ciphertext_leads piece clear
   leads_on (FinishSealing out) on clear right =
-      finish_leads Sealing h.output _ (turned Sealing _ _ _ clear) refl (take_at (tag_of (reached h)) _ tag_size (length-bytes_in (reached h).machine.edition tag_size _))
+      finish_leads Sealing h.output _ (turn_of h Sealing (passed_clear _ _ _ _ clear).in_turn) refl (take_at (tag_of (reached h)) _ tag_size (length-bytes_in (reached h).machine.edition tag_size _))
   leads_on (FinishChecking given) on clear right =
-      finish_leads Checking (h.output ++ []) given (turned Checking _ _ _ clear) (append-nil h.output) (same_equal given (tag_of (reached h)) (not-false _ right))
+      finish_leads Checking (h.output ++ []) given (turn_of h Checking (passed_clear _ _ _ _ clear).in_turn) (append-nil h.output) (same_equal given (tag_of (reached h)) (not-false _ right))
 
 -- The clocks that are answered are those of the history to which the call leads.
 counted : {a : Answer} {m : ℕ} {x : Stream} {h : History} → a ≡ Ok m → a ≡ Ok (clocks_so_far x) → Leads x h → m ≡ length (clocks_of h)

@@ -19,29 +19,19 @@ use Rattle.limits.specs.Limits.{message_limit}
 use Rattle.stream_checks.specs.declared.counts.Kind.{Kind}
 use Rattle.stream_checks.specs.declared.counts.Kind.TheVariants.{Sealing, Checking}
 use Rattle.stream_checks.specs.Counts.{number, out_of_turn}
-use Rattle.stream_checks.proofs.Turns.{Its, ad-in_turn, in_turn_lem, in_turn-ad, in_turn-text}
+use Rattle.stream_checks.proofs.Turns.{Its, in_turn-ad, in_turn-text}
 use Rattle.streams.specs.Calls.{Call, Begin, Ad, Message, Ciphertext, FinishSealing, FinishChecking, next, produced, lent, Step, settled, called}
 use Rattle.streams.specs.Demand1.{Accepts}
 use Rattle.streams.specs.History.{History, Play, reached}
 use Rattle.streams.specs.Cutting.{Taking}
 use Rattle.streams.proofs.Reached.{tag-reached}
 use Rattle.streams.proofs.Settled.{passed_clear, clear_passed, judgement_of, wrong_tag, GoesOn, on_stream_lem, begin_judgement, Begins, begins, begins_passed, called-begin}
-use Rattle.streams.proofs.Cutting.{not-ended, same_kind, Follows, next-goes}
+use Rattle.streams.proofs.Cutting.{turn_of, ad_turn_of, Follows, next-goes}
 
 module _ (h : History) where
-  -- A call on the stream that is reached is in its turn.
-  record TurnOf (kind : Kind) : Type 0 where
-    pub kinds : h.kind ≡ kind
-    pub unended : h.ended ≡ false
-    pub full : length h.ad ≡ h.announced
-
   its : (kind : Kind) → h.kind ≡ kind → h.ended ≡ false → Its kind (reached h).counts
   unfolding reached
   its kind k u = record { kinds = ap number k; unended = ap digit u }
-
-  turn_of : (kind : Kind) → out_of_turn kind (reached h).counts ≡ false → TurnOf kind
-  unfolding reached
-  turn_of kind o = let i = in_turn_lem kind (reached h).counts o in record { kinds = same_kind h.kind kind i.0.kinds; unended = not-ended h.ended i.0.unended; full = i.1 }
 
   turn_on : (kind : Kind) → h.kind ≡ kind → h.ended ≡ false → length h.ad ≡ h.announced → out_of_turn kind (reached h).counts ≡ false
   unfolding reached
@@ -52,34 +42,34 @@ module _ (h : History) where
   unfolding reached
   rows_take (Begin kind n key nonce announced) size on = absurd on
   rows_take (Ad kind piece) size on = (
-    λ v. let i = ad-in_turn kind (reached h).counts (length piece) (passed_clear _ _ _ _ v.0).in_turn in (same_kind h.kind kind i.0.kinds, not-ended h.ended i.0.unended, i.1),
+    λ v. ad_turn_of h kind (length piece) (passed_clear _ _ _ _ v.0).in_turn,
     λ t. (clear_passed _ _ _ _ (record { in_turn = in_turn-ad kind (reached h).counts (its kind t.0 t.1) (length piece) t.2; fits = refl; sized = refl; room = refl }), refl),
   )
   rows_take (Message piece out) size on = (
     λ v.
         let clear = passed_clear _ _ _ _ v.0 in
-        let i = turn_of Sealing clear.in_turn in
+        let i = turn_of h Sealing clear.in_turn in
         (i.kinds, i.unended, i.full, ltb-false message_limit (length h.text + length piece) clear.fits, ltb-false (length out) (length piece) clear.room),
     λ t. (clear_passed _ _ _ _ (record { in_turn = turn_on Sealing t.0 t.1 t.2; fits = le-ltb message_limit (length h.text + length piece) t.3; sized = refl; room = le-ltb (length out) (length piece) t.4 }), refl),
   )
   rows_take (Ciphertext piece) size on = (
     λ v.
         let clear = passed_clear _ _ _ _ v.0 in
-        let i = turn_of Checking clear.in_turn in
+        let i = turn_of h Checking clear.in_turn in
         (i.kinds, i.unended, i.full, ltb-false message_limit (length h.text + length piece) clear.fits),
     λ t. (clear_passed _ _ _ _ (record { in_turn = turn_on Checking t.0 t.1 t.2; fits = le-ltb message_limit (length h.text + length piece) t.3; sized = refl; room = refl }), refl),
   )
   rows_take (FinishSealing out) size on = (
     λ v.
         let clear = passed_clear _ _ _ _ v.0 in
-        let i = turn_of Sealing clear.in_turn in
+        let i = turn_of h Sealing clear.in_turn in
         (i.kinds, i.unended, i.full, ltb-false (length out) tag_size clear.room),
     λ t. (clear_passed _ _ _ _ (record { in_turn = turn_on Sealing t.0 t.1 t.2; fits = refl; sized = refl; room = le-ltb (length out) tag_size t.3 }), refl),
   )
   rows_take (FinishChecking given) size on = (
     λ v.
         let clear = passed_clear _ _ _ _ v.0 in
-        let i = turn_of Checking clear.in_turn in
+        let i = turn_of h Checking clear.in_turn in
         (i.kinds, i.unended, i.full, eqb-true (length given) tag_size (not-false _ clear.sized), same_equal given _ (not-false _ v.1) ∙ tag-reached h i.unended i.full),
     λ t. (
       clear_passed _ _ _ _ (record { in_turn = turn_on Checking t.0 t.1 t.2; fits = refl; sized = ap not (eq-eqb (length given) tag_size t.3); room = refl }),
