@@ -16,13 +16,11 @@ checked j = record { checked = j.judge_unauthenticated.ensures }
 
 pub unwrap-requires : goal.unwrap-requires
 unwrap-requires c =
-    let h = (crypt-legal (checked (goal.at.unwrap-requires c).After-judge_unauthenticated) c.in_ok-judge_unauthenticated.was).0.common in
-    c.try_into.ensures.0 h.key_sized
+    c.try_into.ensures.0 (crypt-legal (checked (goal.at.unwrap-requires c).After-judge_unauthenticated) c.in_ok-judge_unauthenticated.was).0.common.key_sized
 
 pub unwrap-requires-2 : goal.unwrap-requires-2
 unwrap-requires-2 c =
-    let h = (crypt-legal (checked (goal.at.unwrap-requires-2 c).After-judge_unauthenticated) c.in_ok-judge_unauthenticated.was).0.common in
-    c.try_into-2.ensures.0 h.nonce_sized
+    c.try_into-2.ensures.0 (crypt-legal (checked (goal.at.unwrap-requires-2 c).After-judge_unauthenticated) c.in_ok-judge_unauthenticated.was).0.common.nonce_sized
 
 pub returns-in_err-judge_unauthenticated : goal.returns-in_err-judge_unauthenticated
 returns-in_err-judge_unauthenticated c =

@@ -21,21 +21,19 @@ checked : (j : After-judge_authenticated) →
 unfolding message_limit
 checked j = record { checked = rw j.size-size.ensures at j.judge_authenticated.ensures }
 
-pub unwrap-requires : goal.unwrap-requires
-unwrap-requires c =
-    let h = (seal_legal (checked (goal.at.unwrap-requires c).After-judge_authenticated) c.in_ok-judge_authenticated.was).0.common in
-    c.try_into.ensures.0 h.key_sized
-
-pub unwrap-requires-2 : goal.unwrap-requires-2
-unwrap-requires-2 c =
-    let h = (seal_legal (checked (goal.at.unwrap-requires-2 c).After-judge_authenticated) c.in_ok-judge_authenticated.was).0.common in
-    c.try_into-2.ensures.0 h.nonce_sized
-
 -- All is legal, and there is room for the payload.
 legal : (j : After-judge_authenticated) → j.judge_authenticated.result ≡ passed →
     let a = j.args in
     Legal a.tag_bits a.key.now a.nonce.now a.message.now × (length a.message.now + tag_size a.tag_bits ≤ length a.out.now)
 legal j h = seal_legal (checked j) h
+
+pub unwrap-requires : goal.unwrap-requires
+unwrap-requires c =
+    c.try_into.ensures.0 (legal (goal.at.unwrap-requires c).After-judge_authenticated c.in_ok-judge_authenticated.was).0.common.key_sized
+
+pub unwrap-requires-2 : goal.unwrap-requires-2
+unwrap-requires-2 c =
+    c.try_into-2.ensures.0 (legal (goal.at.unwrap-requires-2 c).After-judge_authenticated c.in_ok-judge_authenticated.was).0.common.nonce_sized
 
 pub overflow_add-end : goal.overflow_add-end
 overflow_add-end c =

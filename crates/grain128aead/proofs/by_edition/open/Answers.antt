@@ -52,13 +52,11 @@ compared n =
 
 pub unwrap-requires : goal.unwrap-requires
 unwrap-requires c =
-    let h = open_clear (checked (goal.at.unwrap-requires c).After-judge) c.in_ok-judge.was in
-    c.try_into.ensures.0 h.key_sized
+    c.try_into.ensures.0 (open_clear (checked (goal.at.unwrap-requires c).After-judge) c.in_ok-judge.was).key_sized
 
 pub unwrap-requires-2 : goal.unwrap-requires-2
 unwrap-requires-2 c =
-    let h = open_clear (checked (goal.at.unwrap-requires-2 c).After-judge) c.in_ok-judge.was in
-    c.try_into-2.ensures.0 h.nonce_sized
+    c.try_into-2.ensures.0 (open_clear (checked (goal.at.unwrap-requires-2 c).After-judge) c.in_ok-judge.was).nonce_sized
 
 pub overflow_sub-result : goal.overflow_sub-result
 overflow_sub-result c =

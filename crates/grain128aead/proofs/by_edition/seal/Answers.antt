@@ -20,13 +20,11 @@ checked j = record { checked = j.judge.ensures }
 
 pub unwrap-requires : goal.unwrap-requires
 unwrap-requires c =
-    let h = seal_clear (checked (goal.at.unwrap-requires c).After-judge) c.in_ok-judge.was in
-    c.try_into.ensures.0 h.key_sized
+    c.try_into.ensures.0 (seal_clear (checked (goal.at.unwrap-requires c).After-judge) c.in_ok-judge.was).key_sized
 
 pub unwrap-requires-2 : goal.unwrap-requires-2
 unwrap-requires-2 c =
-    let h = seal_clear (checked (goal.at.unwrap-requires-2 c).After-judge) c.in_ok-judge.was in
-    c.try_into-2.ensures.0 h.nonce_sized
+    c.try_into-2.ensures.0 (seal_clear (checked (goal.at.unwrap-requires-2 c).After-judge) c.in_ok-judge.was).nonce_sized
 
 pub overflow_add-end : goal.overflow_add-end
 overflow_add-end c = omega (arith, seal_room (checked (goal.at.overflow_add-end c).After-judge) c.in_ok-judge.was, c.well_formed)
