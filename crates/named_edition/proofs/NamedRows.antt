@@ -7,13 +7,40 @@ use Prim.Native.Nat.{ℕ}
 use lib.Dec.{eqb}
 use Rattle.refusals.specs.declared.Refusal.{Refusal}
 use Rattle.refusals.specs.declared.Refusal.TheVariants.{UnknownEdition}
-use Rattle.refusals.specs.Refusals.{Check, number, Row, ◌when◌, among, check}
-use Rattle.std.specs.Prelude.{Err}
+use Rattle.refusals.specs.Refusals.{Answer, Check, number, Row, ◌when◌, among, check}
+use native.Mathlib.Omega.{arith}
+use Rattle.std.specs.Prelude.{Option, Some, None, Result, Ok, Err}
+use Rattle.std.specs.Option.{ok_or}
+use Rattle.std.specs.Result.{IsErrAnd}
+use Rattle.refusals.proofs.Returned.{handed_on}
 use Rattle.refusals.specs.Outcome.{Outcome, refused, settled, judged}
 use Rattle.machine.specs.declared.edition.Edition.{Edition}
 use Rattle.startup.specs.Naming.{known, named}
 use Rattle.startup.proofs.Naming.{names}
 use Rattle.named_edition.specs.Calls.{with_edition, InNamed}
+
+-- The edition that a number names, or refusal 23 in its place.
+module _ (n : ℕ) {named_by : Option Edition} {chosen : Result Edition Refusal} (by_number : named_by ≡ cond (known n) (Some (named n)) None) (or_23 : chosen ≡ ok_or named_by UnknownEdition) where
+  by_case : (b : Bool) → known n ≡ b → chosen ≡ cond b (Ok (named n)) (Err UnknownEdition)
+  by_case true e = or_23 ∙ ap (λ (o : Option Edition). ok_or o UnknownEdition) (by_number ∙ ap (λ (b : Bool). cond b (Some (named n)) None) e)
+  by_case false e = or_23 ∙ ap (λ (o : Option Edition). ok_or o UnknownEdition) (by_number ∙ ap (λ (b : Bool). cond b (Some (named n)) None) e)
+
+  pub chosen-known : {v : Edition} → chosen ≡ Ok v → (known n ≡ true) × (v ≡ named n)
+  chosen-known {v} is = go (known n) (by_case (known n) refl)
+    where
+      go : (b : Bool) → chosen ≡ cond b (Ok (named n)) (Err UnknownEdition) → (b ≡ true) × (v ≡ named n)
+      go true e = grind arith
+      go false e = grind arith
+
+  pub chosen-unknown : {r : Refusal} → chosen ≡ Err r → (a : Answer) → IsErrAnd a (λ q. q ≡ r) → (known n ≡ false) × (a ≡ Err UnknownEdition)
+  chosen-unknown {r} is a h = go (known n) (by_case (known n) refl)
+    where
+      handed : a ≡ Err r
+      handed = handed_on a r h
+
+      go : (b : Bool) → chosen ≡ cond b (Ok (named n)) (Err UnknownEdition) → (b ≡ false) × (a ≡ Err UnknownEdition)
+      go true e = grind arith
+      go false e = grind arith
 
 -- Whether refusal 23 is not among those of a list.
 abbrev pub without23 : List Refusal → Bool

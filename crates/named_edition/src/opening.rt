@@ -28,8 +28,6 @@ pub fn open(
     ensures demand3 { named.InNamed edition (λ e. Demand3 e key.now nonce.now ad.now input.now out.old (outcome result out.new)) }
     ensures substitution { named.InNamed edition (λ e. Substitution e key.now nonce.now ad.now input.now out.old (outcome result out.new)) }
 {
-    if !editions::known(edition) {
-        return Err(Refusal::UnknownEdition);
-    }
-    by_edition::open(editions::named(edition), key, nonce, ad, input, out)
+    let edition = editions::by_number(edition).ok_or(Refusal::UnknownEdition)?;
+    by_edition::open(edition, key, nonce, ad, input, out)
 }

@@ -24,8 +24,6 @@ pub fn seal(
     ensures demand1 { Demand1 named.order (among (named.sealing_rows edition key.now nonce.now ad.now message.now out.old)) (payload (naming.named edition) key.now nonce.now ad.now message.now) out.old (outcome result out.new) }
     ensures demand2 { named.InNamed edition (λ e. Sealing e key.now nonce.now ad.now message.now out.old (outcome result out.new)) }
 {
-    if !editions::known(edition) {
-        return Err(Refusal::UnknownEdition);
-    }
-    by_edition::seal(editions::named(edition), key, nonce, ad, message, out)
+    let edition = editions::by_number(edition).ok_or(Refusal::UnknownEdition)?;
+    by_edition::seal(edition, key, nonce, ad, message, out)
 }
