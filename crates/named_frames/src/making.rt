@@ -25,15 +25,6 @@ pub fn make(
     ensures demand1 { Demand1 named.making (among (named.making_rows edition key.now nonce.now identifier message.now out.old)) (data_field (naming.named edition) key.now nonce.now identifier message.now) out.old (outcome result out.new) }
     ensures demand2 { InNamed edition (λ e. Making e key.now nonce.now identifier message.now out.old (outcome result out.new)) }
 {
-    if !editions::known(edition) {
-        return Err(Refusal::UnknownEdition);
-    }
-    by_edition::make(
-        editions::named(edition),
-        key,
-        nonce,
-        identifier,
-        message,
-        out,
-    )
+    let edition = editions::by_number(edition).ok_or(Refusal::UnknownEdition)?;
+    by_edition::make(edition, key, nonce, identifier, message, out)
 }

@@ -26,16 +26,6 @@ pub fn read(
     ensures demand1 { Demand1 named.reading (among (named.reading_rows edition key.now nonce.now identifier code field.now out.old)) (calls.recovered (naming.named edition) key.now nonce.now identifier code field.now) out.old (outcome result out.new) }
     ensures promises { InNamed edition (λ e. Reading e key.now nonce.now identifier code field.now out.old (outcome result out.new)) }
 {
-    if !editions::known(edition) {
-        return Err(Refusal::UnknownEdition);
-    }
-    by_edition::read(
-        editions::named(edition),
-        key,
-        nonce,
-        identifier,
-        code,
-        field,
-        out,
-    )
+    let edition = editions::by_number(edition).ok_or(Refusal::UnknownEdition)?;
+    by_edition::read(edition, key, nonce, identifier, code, field, out)
 }

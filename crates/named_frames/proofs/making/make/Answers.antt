@@ -2,8 +2,8 @@
 use mathlib.Core.Path.{◌≡◌, sym, ap, ◌∙◌, subst}
 use mathlib.Core.List.{List}
 use Prim.Native.Nat.{ℕ}
-use Rattle.refusals.specs.Refusals.{among}
-use Rattle.refusals.specs.Outcome.{Outcome}
+use Rattle.refusals.specs.Refusals.{Answer, among}
+use Rattle.refusals.specs.Outcome.{Outcome, outcome}
 use Rattle.machine.specs.declared.edition.Edition.{Edition}
 use Rattle.startup.specs.Naming as naming
 use Rattle.checks.specs.Demand1.{Demand1}
@@ -13,6 +13,7 @@ use Rattle.frames.specs.Calls as calls
 use Rattle.frames.specs.Demand2.{Making}
 use Rattle.named_frames.specs.Calls.{making, making_rows, made}
 use Rattle.named_frames.proofs.Calls.{made_unknown, made-known, demand1_making, makes}
+use Rattle.named_edition.proofs.NamedRows.{chosen-known, chosen-unknown}
 use Rattle.named_frames.proofs.making.make.Goals as goal
 
 -- The call's three clauses from the first of them.
@@ -27,18 +28,20 @@ called n key nonce identifier message out is = (
   ),
 )
 
-pub returns-then-not-known : goal.returns-then-not-known
-returns-then-not-known c =
+pub returns-in_err-edition : goal.returns-in_err-edition
+returns-in_err-edition c =
     let a = c.args in
+    let u = chosen-unknown a.edition c.by_number.ensures c.ok_or.ensures.value c.in_err-edition.was c.from_residual.result c.from_residual.ensures.1 in
     let k = called a.edition a.key.now a.nonce.now a.identifier a.message.now a.out.now
-    (made_unknown a.edition a.key.now a.nonce.now a.identifier a.message.now a.out.now (sym c.known.ensures ∙ c.if-not-known.true)) in
+    (ap (λ (r : Answer). outcome r a.out.now) u.1 ∙ made_unknown a.edition a.key.now a.nonce.now a.identifier a.message.now a.out.now u.0) in
     record { made = k.0; demand1 = k.1.0; demand2 = k.1.1 }
 
 pub returns : goal.returns
 returns c =
     let a = c.args in
+    let n = chosen-known a.edition c.by_number.ensures c.ok_or.ensures.value c.in_ok-edition.was in
     let k = called a.edition a.key.now a.nonce.now a.identifier a.message.now a.out.now
     (c.make.ensures.made
-    ∙ ap (λ (v : Edition). calls.made v a.key.now a.nonce.now a.identifier a.message.now a.out.now) c.named.ensures
-    ∙ made-known a.edition a.key.now a.nonce.now a.identifier a.message.now a.out.now (sym c.known.ensures ∙ c.if-not-known.false)) in
+    ∙ ap (λ (v : Edition). calls.made v a.key.now a.nonce.now a.identifier a.message.now a.out.now) n.1
+    ∙ made-known a.edition a.key.now a.nonce.now a.identifier a.message.now a.out.now n.0) in
     record { made = k.0; demand1 = k.1.0; demand2 = k.1.1 }
