@@ -2,7 +2,7 @@
 -- Assumes nothing.
 use mathlib.Core.Path.{◌≡◌, refl, sym, ap, ap₂, ◌∙◌}
 use mathlib.Core.Logic.{◌≢◌}
-use mathlib.Core.Bool.{Bool, true, false, cond, not}
+use mathlib.Core.Bool.{Bool, true, false, true≢false, cond, not}
 use mathlib.Core.List.{List, [], ◌∷◌}
 use Prim.Native.Nat.{ℕ, ◌+◌, ◌<◌, ◌≤◌}
 use native.Mathlib.Omega.{arith}
@@ -14,12 +14,14 @@ use Rattle.refusals.specs.declared.Refusal.{Refusal}
 use Rattle.refusals.specs.declared.Refusal.TheVariants.{KeySize, NonceSize, AdTooLong, TagDiffers, UnsoundState, BlankKey, UnknownEdition}
 use Rattle.refusals.specs.Refusals.{Check, Answer, Row, ◌when◌, among, after, check, passed}
 use Rattle.std.specs.Prelude.{Option, None, Some, Ok, Err, MatchResult}
-use Rattle.std.specs.Option.{ok_or}
+use Rattle.std.specs.Option.{ok_or, is_some, IsSome}
+use Rattle.std.proofs.lemmas.Option.{cond_some}
 use Rattle.std.proofs.lemmas.Bool.Decides.{nat_tests}
 use Rattle.refusals.proofs.LastRow.{check-last}
 use Rattle.key.specs.Sizes.{key_size, nonce_size}
 use Rattle.key.specs.BlankKey.{blank_key}
 use Rattle.key.proofs.BlankKey.{not_blank, unequal_not_blank}
+use Rattle.machine.specs.declared.edition.Edition.{Edition}
 use Rattle.startup.specs.Naming.{known, named}
 use Rattle.payload.specs.Sizes.{tag_size}
 use Rattle.limits.specs.Limits.{message_limit}
@@ -168,6 +170,23 @@ put_step y {x} s size same counted stored e = λ i. step
     (e i)
 
 -- ---- begin
+
+-- The edition that a number names, if it names one.
+module _ (n : ℕ) {named_by : Option Edition} (by_number : named_by ≡ cond (known n) (Some (named n)) None) where
+  pub names_none : {u : Bool} → is_some named_by ≡ not u → u ≡ not (known n)
+  names_none {u} e = go (known n) u (sym (ap is_some by_number) ∙ e)
+    where
+      go : (b v : Bool) → is_some (cond b (Some (named n)) None) ≡ not v → v ≡ not b
+      go true true h = absurd (true≢false h)
+      go true false h = refl
+      go false true h = refl
+      go false false h = absurd (true≢false (sym h))
+
+  pub names_one : known n ≡ true → IsSome named_by
+  names_one e = ap is_some by_number ∙ ap (λ (b : Bool). is_some (cond b (Some (named n)) None)) e
+
+  pub names_it : {e : Edition} → named_by ≡ Some e → e ≡ named n
+  names_it {e} is = sym (cond_some (known n) (named n) e (sym by_number ∙ is)).1
 
 pub record Begins (n : ℕ) (key nonce : List ℕ) (announced size : ℕ) : Type 0 where
   pub edition : known n ≡ true

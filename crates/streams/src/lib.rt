@@ -31,12 +31,13 @@ pub fn begin(
     ensures demand1 { Demand1 (calls.Begin kind edition key.now nonce.now announced) state.old (step result state.new []) }
     ensures fits { capped result ≡ result }
 {
-    let unknown = !editions::known(edition);
+    let edition = editions::by_number(edition);
+    let unknown = edition.is_none();
     let size = state.len();
     stream_checks::judge_begin(unknown, key, nonce, announced, AD_LIMIT, size)?;
-    // No row applied: key and nonce have their sizes.
+    // No row applied: the edition is known, key and nonce have their sizes.
     let engine = going::start(
-        editions::named(edition),
+        edition.unwrap(),
         key.try_into().unwrap(),
         nonce.try_into().unwrap(),
         announced,
