@@ -47,10 +47,5 @@ pub fn stroke(g: Registers, n: usize, to_lfsr: u64, to_nfsr: u64) -> Registers
 pub fn plain_stroke(g: Registers) -> Registers
     ensures { generator_of result ≡ stroked grain128 32 (places (word 32 0)) (places (word 32 0)) (generator_of g) }
 {
-    Registers {
-        lfsr0: bits::slide(g.lfsr0, g.lfsr1, 32),
-        lfsr1: bits::slide(g.lfsr1, lfsr_bits(g, 0) << 32, 32),
-        nfsr0: bits::slide(g.nfsr0, g.nfsr1, 32),
-        nfsr1: bits::slide(g.nfsr1, nfsr_bits(g, 0) << 32, 32),
-    }
+    stroke(g, 32, 0, 0)
 }
