@@ -60,7 +60,7 @@ module _ (e : Edition) (key nonce : List ℕ) (identifier code : ℕ) (field out
   pub accepted_clear : Accepts (read e key nonce identifier code field out) → ReadingClear key nonce identifier code field (length out) false
   accepted_clear a =
       let c = reading_clear key nonce identifier code field (length out) _ (demand1_reading.accepts.0 a) in
-      record { common = c.common; coded = c.coded; announces = c.announces; zeros = c.zeros; fits = c.fits; authentic = refl }
+      rw c.authentic at c
 
   -- So it is for a field that a message makes, given room.
   pub makes_clear : (m : List ℕ) → Makes e key nonce identifier code m field → length m ≤ length out → ReadingClear key nonce identifier code field (length out) false
