@@ -79,6 +79,10 @@ module _ (out_of_turn too_long wrong_size no_room : Bool) where
   unfolding before_tag rows among check
   clear_passed clear = λ i. check before_tag (among (rows false (clear.in_turn i) (clear.fits i) (clear.sized i) (clear.room i) false))
 
+pub none_applies : {out_of_turn too_long wrong_size no_room : Bool} {d : Check} → d ≡ judgement out_of_turn too_long wrong_size no_room → d ≡ passed
+    → NoneApplies out_of_turn too_long wrong_size no_room
+none_applies judged was = passed_clear _ _ _ _ (sym judged ∙ was)
+
 -- A message that is not too long is counted in two bytes.
 pub message_fits_lem : (c : Counts) (n : ℕ) → too_long message_limit c n ≡ false → c.message + n < 65536
 unfolding message_limit

@@ -1,5 +1,5 @@
 -- `streams::ad` meets its contract.
-use mathlib.Core.Path.{refl, sym, ◌∙◌}
+use mathlib.Core.Path.{refl}
 use native.Mathlib.Omega.{arith}
 use lib.ListN.{length}
 use Rattle.stream_checks.proofs.Turns.{ad-in_turn}
@@ -7,7 +7,7 @@ use Rattle.stream_state.specs.Stream.{stream_of}
 use Rattle.machine.specs.Engine.{state_of}
 use Rattle.streams.specs.Calls.{Ad}
 use Rattle.streams.proofs.Answered.{unsound, failed, goes_on}
-use Rattle.streams.proofs.Settled.{passed_clear}
+use Rattle.streams.proofs.Settled.{none_applies}
 use Rattle.streams.proofs.ad.Goals as goal
 
 pub returns-in_err-x : goal.returns-in_err-x
@@ -22,7 +22,7 @@ returns-in_err-judge c =
 pub more_ad-counts-requires : goal.more_ad-counts-requires
 more_ad-counts-requires c =
     let judged = rw c.ad_out_of_turn-out_of_turn.ensures at c.judge.ensures in
-    let inside = (ad-in_turn c.args.kind c.in_ok-x.x.counts (length c.args.piece.now) (passed_clear _ _ _ _ (sym judged ∙ c.in_ok-judge.was)).in_turn).1 in
+    let inside = (ad-in_turn c.args.kind c.in_ok-x.x.counts (length c.args.piece.now) (none_applies judged c.in_ok-judge.was).in_turn).1 in
     omega (arith, inside)
 
 pub returns : goal.returns

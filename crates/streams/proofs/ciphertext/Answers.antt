@@ -1,12 +1,12 @@
 -- `streams::ciphertext` meets its contract.
-use mathlib.Core.Path.{refl, sym, ◌∙◌}
+use mathlib.Core.Path.{refl}
 use lib.ListN.{length}
 use Rattle.limits.specs.Limits.{message_limit}
 use Rattle.stream_state.specs.Stream.{stream_of}
 use Rattle.machine.specs.Engine.{state_of}
 use Rattle.streams.specs.Calls.{Ciphertext}
 use Rattle.streams.proofs.Answered.{unsound, failed, goes_on}
-use Rattle.streams.proofs.Settled.{message_fits_lem, passed_clear}
+use Rattle.streams.proofs.Settled.{message_fits_lem, none_applies}
 use Rattle.streams.proofs.ciphertext.Goals as goal
 
 pub returns-in_err-x : goal.returns-in_err-x
@@ -23,7 +23,7 @@ pub more_message-counts-requires : goal.more_message-counts-requires
 unfolding message_limit
 more_message-counts-requires c =
     let judged = rw (c.too_long-too_long.ensures, c.out_of_turn-out_of_turn.ensures) at c.judge.ensures in
-    message_fits_lem c.in_ok-x.x.counts (length c.args.piece.now) (passed_clear _ _ _ _ (sym judged ∙ c.in_ok-judge.was)).fits
+    message_fits_lem c.in_ok-x.x.counts (length c.args.piece.now) (none_applies judged c.in_ok-judge.was).fits
 
 pub returns : goal.returns
 unfolding message_limit stream_of state_of

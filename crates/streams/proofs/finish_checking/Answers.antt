@@ -1,5 +1,5 @@
 -- `streams::finish_checking` meets its contract.
-use mathlib.Core.Path.{refl, sym, ◌∙◌}
+use mathlib.Core.Path.{refl}
 use lib.ListN.{length}
 use native.Mathlib.Omega.{arith}
 use borrow.Author.Tests.{eqb-true, not-false}
@@ -8,7 +8,7 @@ use Rattle.limits.specs.Limits.{message_limit}
 use Rattle.streams.specs.Calls.{FinishChecking}
 use Rattle.streams.proofs.Engines.{tag_same, tag_differs_lem}
 use Rattle.streams.proofs.Answered.{unsound, failed, differs, goes_on}
-use Rattle.streams.proofs.Settled.{passed_clear}
+use Rattle.streams.proofs.Settled.{none_applies}
 use Rattle.streams.proofs.finish_checking.Goals as goal
 
 pub returns-in_err-x : goal.returns-in_err-x
@@ -25,7 +25,7 @@ pub returns-then-finish-number : goal.returns-then-finish-number
 returns-then-finish-number c =
     let a = c.args in
     let judged = rw c.out_of_turn-out_of_turn.ensures at c.judge.ensures in
-    let eight = eqb-true (length a.tag.now) tag_size (not-false _ (passed_clear _ _ _ _ (sym judged ∙ c.in_ok-judge.was)).sized) in
+    let eight = eqb-true (length a.tag.now) tag_size (not-false _ (none_applies judged c.in_ok-judge.was).sized) in
     differs (FinishChecking a.tag.now) tt c.in_ok-x.ensures judged c.in_ok-judge.was
     (tag_differs_lem c.in_ok-x.x c.finish.result c.finish.ensures a.tag.now c.number.result eight (λ i. omega (arith, c.type_inv.tag i)) (omega (arith, c.finish.type_inv)) c.number.ensures c.if-finish-number.true)
 
@@ -33,6 +33,6 @@ pub returns : goal.returns
 returns c =
     let a = c.args in
     let judged = rw c.out_of_turn-out_of_turn.ensures at c.judge.ensures in
-    let eight = eqb-true (length a.tag.now) tag_size (not-false _ (passed_clear _ _ _ _ (sym judged ∙ c.in_ok-judge.was)).sized) in
+    let eight = eqb-true (length a.tag.now) tag_size (not-false _ (none_applies judged c.in_ok-judge.was).sized) in
     let right = tag_same c.in_ok-x.x c.finish.result c.finish.ensures a.tag.now c.number.result eight (λ i. omega (arith, c.type_inv.tag i)) (omega (arith, c.finish.type_inv)) c.number.ensures c.if-finish-number.false in
     goes_on (FinishChecking a.tag.now) tt c.in_ok-x.ensures judged c.in_ok-judge.was right c.ended.result c.ended.ensures refl c.put.ensures.counted c.put.ensures.stored c.put.ensures.fits

@@ -1,12 +1,12 @@
 -- `streams::message` meets its contract.
-use mathlib.Core.Path.{refl, sym, ◌∙◌}
+use mathlib.Core.Path.{refl}
 use lib.ListN.{length}
 use Rattle.limits.specs.Limits.{message_limit}
 use borrow.Author.Tests.{ltb-false}
 use Rattle.streams.specs.Calls.{Message}
 use Rattle.streams.proofs.Engines.{enciphered, enciphered-output}
 use Rattle.streams.proofs.Answered.{unsound, failed, goes_on}
-use Rattle.streams.proofs.Settled.{message_fits_lem, passed_clear}
+use Rattle.streams.proofs.Settled.{message_fits_lem, none_applies}
 use Rattle.streams.proofs.message.Goals as goal
 
 pub returns-in_err-x : goal.returns-in_err-x
@@ -23,14 +23,14 @@ pub more_message-counts-requires : goal.more_message-counts-requires
 unfolding message_limit
 more_message-counts-requires c =
     let judged = rw (c.too_long-too_long.ensures, c.out_of_turn-out_of_turn.ensures) at c.judge.ensures in
-    message_fits_lem c.in_ok-x.x.counts (length c.args.piece.now) (passed_clear _ _ _ _ (sym judged ∙ c.in_ok-judge.was)).fits
+    message_fits_lem c.in_ok-x.x.counts (length c.args.piece.now) (none_applies judged c.in_ok-judge.was).fits
 
 pub returns : goal.returns
 unfolding message_limit
 returns c =
     let a = c.args in
     let judged = rw (c.too_long-too_long.ensures, c.out_of_turn-out_of_turn.ensures) at c.judge.ensures in
-    let room = ltb-false (length a.out.now) (length a.piece.now) (passed_clear _ _ _ _ (sym judged ∙ c.in_ok-judge.was)).room in
+    let room = ltb-false (length a.out.now) (length a.piece.now) (none_applies judged c.in_ok-judge.was).room in
     goes_on (Message a.piece.now a.out.now) tt c.in_ok-x.ensures judged c.in_ok-judge.was refl _
     (enciphered c.in_ok-x.x a.piece.now c.encipher_all-engine.result c.more_message-counts.result room c.encipher_all-engine.ensures c.more_message-counts.ensures)
     (enciphered-output c.in_ok-x.x a.piece.now c.encipher_all-engine.result c.more_message-counts.result room c.encipher_all-engine.ensures) c.put.ensures.counted c.put.ensures.stored c.put.ensures.fits
