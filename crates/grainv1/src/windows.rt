@@ -3,7 +3,7 @@
 ghost use Rattle.std.specs.Prelude.{◌≡◌, ◌++◌, drop};
 ghost use Rattle.bits.specs.Bytes.{word};
 ghost use Rattle.generators.specs.Algebra.{words};
-ghost use Rattle.grainv1.specs.Functions.{L, F, z};
+ghost use Rattle.grainv1.specs.Functions.{L, F, h, z};
 ghost use Rattle.grainv1.specs.Words.{window};
 
 use crate::registers;
@@ -19,65 +19,56 @@ impl Windows {
     {
         Windows(word0, registers::moved(word0, word1))
     }
+
+    // Sixteen places from place k on, at the lower end of a word.
+    fn place(self, k: u32) -> u64
+        ensures { result ≡ window self.0 self.1 k }
+    {
+        if k < 16 {
+            self.0 >> (48 - k)
+        } else {
+            self.1 >> 64u32.saturating_sub(k)
+        }
+    }
 }
 
 pub fn linear(s: Windows) -> u64
     ensures { result ≡ L words (window s.0 s.1) }
 {
-    let Windows(s0, s16) = s;
-    (s16 >> 2) ^ (s16 >> 13) ^ (s16 >> 26) ^ (s16 >> 41) ^ (s0 >> 35) ^ (s0 >> 48)
+    s.place(62) ^ s.place(51) ^ s.place(38) ^ s.place(23) ^ s.place(13) ^ s.place(0)
 }
 
 pub fn nonlinear(b: Windows) -> u64
     ensures { result ≡ F words (window b.0 b.1) }
 {
-    let Windows(b0, b16) = b;
-    let p9 = b0 >> 39;
-    let p15 = b0 >> 33;
-    let p21 = b16 >> 43;
-    let p28 = b16 >> 36;
-    let p33 = b16 >> 31;
-    let p37 = b16 >> 27;
-    let p45 = b16 >> 19;
-    let p52 = b16 >> 12;
-    let p60 = b16 >> 4;
-    let p63 = b16 >> 1;
-    (b16 >> 2)
-        ^ p60
-        ^ p52
-        ^ p45
-        ^ p37
-        ^ p33
-        ^ p28
-        ^ p21
-        ^ (b0 >> 34)
-        ^ p9
-        ^ (b0 >> 48)
-        ^ (p63 & p60)
-        ^ (p37 & p33)
-        ^ (p15 & p9)
-        ^ (p60 & p52 & p45)
-        ^ (p33 & p28 & p21)
-        ^ (p63 & p45 & p28 & p9)
-        ^ (p60 & p52 & p37 & p33)
-        ^ (p63 & p60 & p21 & p15)
-        ^ (p63 & p60 & p52 & p45 & p37)
-        ^ (p33 & p28 & p21 & p15 & p9)
-        ^ (p52 & p45 & p37 & p33 & p28 & p21)
+    b.place(62)
+        ^ b.place(60)
+        ^ b.place(52)
+        ^ b.place(45)
+        ^ b.place(37)
+        ^ b.place(33)
+        ^ b.place(28)
+        ^ b.place(21)
+        ^ b.place(14)
+        ^ b.place(9)
+        ^ b.place(0)
+        ^ (b.place(63) & b.place(60))
+        ^ (b.place(37) & b.place(33))
+        ^ (b.place(15) & b.place(9))
+        ^ (b.place(60) & b.place(52) & b.place(45))
+        ^ (b.place(33) & b.place(28) & b.place(21))
+        ^ (b.place(63) & b.place(45) & b.place(28) & b.place(9))
+        ^ (b.place(60) & b.place(52) & b.place(37) & b.place(33))
+        ^ (b.place(63) & b.place(60) & b.place(21) & b.place(15))
+        ^ (b.place(63) & b.place(60) & b.place(52) & b.place(45) & b.place(37))
+        ^ (b.place(33) & b.place(28) & b.place(21) & b.place(15) & b.place(9))
+        ^ (b.place(52) & b.place(45) & b.place(37) & b.place(33) & b.place(28) & b.place(21))
 }
 
-pub fn output(s: Windows, b: Windows) -> u64
-    ensures { result ≡ z words (window s.0 s.1) (window b.0 b.1) }
+fn h(x0: u64, x1: u64, x2: u64, x3: u64, x4: u64) -> u64
+    ensures { result ≡ h words x0 x1 x2 x3 x4 }
 {
-    let Windows(s0, s16) = s;
-    let Windows(b0, b16) = b;
-    let x0 = s0 >> 45;
-    let x1 = s16 >> 39;
-    let x2 = s16 >> 18;
-    let x3 = s16 >> 0;
-    let x4 = b16 >> 1;
-    let h = x1
-        ^ x4
+    x1 ^ x4
         ^ (x0 & x3)
         ^ (x2 & x3)
         ^ (x3 & x4)
@@ -85,6 +76,25 @@ pub fn output(s: Windows, b: Windows) -> u64
         ^ (x0 & x2 & x3)
         ^ (x0 & x2 & x4)
         ^ (x1 & x2 & x4)
-        ^ (x2 & x3 & x4);
-    h ^ (b0 >> 47) ^ (b0 >> 46) ^ (b0 >> 44) ^ (b0 >> 38) ^ (b16 >> 33) ^ (b16 >> 21) ^ (b16 >> 8)
+        ^ (x2 & x3 & x4)
+}
+
+pub fn output(s: Windows, b: Windows) -> u64
+    ensures { result ≡ z words (window s.0 s.1) (window b.0 b.1) }
+{
+    let filter = h(
+        s.place(3),
+        s.place(25),
+        s.place(46),
+        s.place(64),
+        b.place(63),
+    );
+    filter
+        ^ b.place(1)
+        ^ b.place(2)
+        ^ b.place(4)
+        ^ b.place(10)
+        ^ b.place(31)
+        ^ b.place(43)
+        ^ b.place(56)
 }
