@@ -1,7 +1,6 @@
 // Payloads of both editions from the same inputs.
 use crate::inputs::{KEY, NONCE, counting};
-use crate::shown;
-use crate::shown::Hex;
+use crate::shown::{self, Hex};
 use grain128aead::by_edition;
 use machine::edition::Edition;
 use std::io;

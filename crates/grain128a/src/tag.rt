@@ -6,8 +6,7 @@ ghost use Rattle.mode_checks.specs.Modes.{tag_limit};
 ghost use Rattle.grain128a.specs.Payload.{tag_size};
 ghost use Rattle.grain128a.specs.TagNumber.{TagNumber};
 
-use machine::engine;
-use machine::engine::Engine;
+use machine::engine::{self, Engine};
 
 // The bytes that a tag of so many bits takes.
 pub fn size(tag_bits: u32) -> usize

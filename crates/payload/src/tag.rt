@@ -6,8 +6,7 @@ ghost use Rattle.machine.specs.Engine.{state_of};
 ghost use Rattle.startup.specs.Editions.{bytes_in};
 ghost use Rattle.payload.specs.Sizes.{tag_size};
 
-use machine::engine;
-use machine::engine::Engine;
+use machine::engine::{self, Engine};
 use startup::editions;
 
 // The word whose bytes are the tag, from the machine before the final 1.

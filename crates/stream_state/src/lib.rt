@@ -11,8 +11,7 @@ ghost use Rattle.stream_state.specs.Layout.{written, held, held_of};
 
 use machine::engine::Engine;
 use startup::editions;
-use stream_checks::counts;
-use stream_checks::counts::Counts;
+use stream_checks::counts::{self, Counts};
 
 // A stream: the machine, which carries its edition, and what is counted.
 #[derive(Clone, Copy)]

@@ -15,8 +15,7 @@ ghost use Rattle.streams.specs.Going.{Holds};
 
 use limits::MESSAGE_LIMIT;
 use machine::edition::Edition;
-use machine::engine;
-use machine::engine::Engine;
+use machine::engine::{self, Engine};
 use refusals::Refusal;
 use stream_checks::counts::Counts;
 use stream_state::Session;

@@ -14,8 +14,7 @@ use grain128aead::sizes::AD_LIMIT;
 use limits::MESSAGE_LIMIT;
 use refusals::Refusal;
 use startup::editions;
-use stream_checks::counts;
-use stream_checks::counts::{Counts, Kind};
+use stream_checks::counts::{self, Counts, Kind};
 use stream_state::Session;
 
 // Begins a stream in the edition that a number names.

@@ -10,12 +10,10 @@ ghost use Rattle.startup.specs.Editions.{bits_in};
 ghost use Rattle.strings.specs.Strings.{Room, pasted, CryptsAll, Continues, with_keystream, Adds};
 
 use machine::edition::Edition;
-use machine::engine;
-use machine::engine::Engine;
+use machine::engine::{self, Engine};
 use preoutput::Registers;
 use startup::editions;
-use strokes::streams;
-use strokes::streams::Taken;
+use strokes::streams::{self, Taken};
 
 // Writes the n lowest bytes of a word from place `at` on, or nothing.
 fn put(edition: Edition, out: &mut [u8], at: usize, n: usize, w: u64, writes: bool)

@@ -6,13 +6,11 @@ use crate::table::{
 };
 use grain128a::starting;
 use machine::edition::Edition;
-use machine::engine;
-use machine::engine::Engine;
+use machine::engine::{self, Engine};
 use preoutput::Registers;
 use startup::loading;
 use std::io;
-use strokes::streams;
-use strokes::streams::{Keystreamed, Streamed};
+use strokes::streams::{self, Keystreamed, Streamed};
 
 // The registers whose clocks give the pre-output stream.
 fn warmed(c: &Column) -> Registers {

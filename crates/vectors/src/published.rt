@@ -2,8 +2,7 @@
 // which the calls refuse: so they are runs of the machine.
 use crate::report::Report;
 use machine::edition::Edition;
-use machine::engine;
-use machine::engine::Engine;
+use machine::engine::{self, Engine};
 use std::io;
 
 // The second vector's.
