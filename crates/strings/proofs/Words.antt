@@ -1,12 +1,12 @@
 -- A string gone over by its words of four bytes.
 -- Assumes nothing.
-use mathlib.Core.Path.{◌≡◌, refl, sym, ap, ◌∙◌}
+use mathlib.Core.Path.{◌≡◌, sym, ap, ◌∙◌}
 use mathlib.Core.List.{List, ◌++◌}
 use Prim.Native.Nat.{ℕ, ◌+◌, ◌*◌, ◌/◌, ◌%◌, ◌^◌, ◌<◌, ◌≤◌}
 use native.Mathlib.Omega.{arith}
 use lib.Dec.{lit≤}
 use lib.ListN.{length, take, drop, length-append, length-drop}
-use lib.Seq.{take_at, drop_at, drop-drop, length-take-le}
+use lib.Seq.{take_at, drop_at, drop-drop}
 use Rattle.std.specs.Iterator.Adapters.{enumerate_source, enumerate_count}
 use Rattle.std.specs.Slice.Iter.{chunks_exact_rest, chunks_exact_size}
 use Rattle.std.specs.declared.iter.Enumerate.{Enumerate}
@@ -34,13 +34,6 @@ pub record Four (s : List ℕ) (n : ℕ) (four : List ℕ) : Type 0 where
   pub long : length four ≡ 4
   pub its : four ≡ take 4 (drop (n * 4) s)
   pub inside : n * 4 + 4 ≤ length s
-
-pub four_within : {s : List ℕ} (n : ℕ) → n * 4 + 4 ≤ length s → Four s n (take 4 (drop (n * 4) s))
-four_within {s} n h = record {
-  long = length-take-le 4 (drop (n * 4) s) (omega (arith, length-drop (n * 4) s));
-  its = refl;
-  inside = h;
-}
 
 module _ {s : List ℕ} {words : Enumerate (ChunksExact ℕ)} (left : Fours s words) where
   -- None, when there are fewer than four bytes.

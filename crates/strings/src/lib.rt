@@ -108,11 +108,10 @@ fn add_words(edition: Edition, taken: Taken, g: Registers, s: &[u8], out: &mut [
     ensures { Adds edition (spacing taken) (generator_of g) (take (length s.now / 4 * 4) s.now) out.old out.new result }
 {
     let mut now = g;
-    for i in 0..s.len() / 4 {
-        let at = i * 4;
+    for (i, four) in s.chunks_exact(4).enumerate() {
         let k = streams::keystream_word(now, taken);
-        let x = editions::ordered(edition, bits::number(&s[at..at + 4]));
-        put(edition, out, at, 4, x ^ k.keystream, true);
+        let x = editions::ordered(edition, bits::number(four));
+        put(edition, out, i * 4, 4, x ^ k.keystream, true);
         now = k.registers;
     }
     now
@@ -124,9 +123,9 @@ fn add_bytes(edition: Edition, taken: Taken, g: Registers, s: &[u8], out: &mut [
     ensures { Adds edition (spacing taken) (generator_of g) s.now out.old out.new result }
 {
     let mut now = g;
-    for i in 0..s.len() {
+    for (i, &byte) in s.iter().enumerate() {
         let k = streams::keystream_byte(now, taken);
-        let x = editions::ordered_byte(edition, s[i]);
+        let x = editions::ordered_byte(edition, byte);
         put(edition, out, i, 1, bits::wide(x) ^ k.keystream, true);
         now = k.registers;
     }
