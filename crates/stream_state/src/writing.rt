@@ -1,5 +1,5 @@
 // A stream written as eight words of eight bytes.
-ghost use Rattle.std.specs.Prelude.{◌≡◌, ◌∷◌, [], ◌++◌, ◌*◌, length};
+ghost use Rattle.std.specs.Prelude.{◌≡◌, ◌∷◌, [], ◌++◌};
 ghost use Rattle.bits.specs.Bytes.{word, bytes};
 ghost use Rattle.startup.specs.Editions as editions;
 ghost use Rattle.stream_state.specs.Layout.{two_bytes, spare};
@@ -26,8 +26,7 @@ pub fn edition_word(edition: Edition) -> u64
 }
 
 // Writes the bytes of words one after the other.
-pub fn store(words: &[u64], state: &mut [u8])
-    requires { length state.old ≡ 8 * length words.now }
+pub fn store(words: &[u64; 8], state: &mut [u8; 64])
     ensures { state.new ≡ spelled_words words.now }
 {
     for (i, w) in words.iter().enumerate() {

@@ -20,4 +20,4 @@ loop-i-preserved c =
 pub returns : goal.returns
 returns c =
     let l = c.loop-i in
-    stored_all c.args.words.now c.args.state.now l.i (omega arith) c.requires l.invariant
+    stored_all c.args.words.now c.args.state.now l.i (omega arith) (omega arith) l.invariant
