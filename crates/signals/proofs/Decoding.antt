@@ -7,9 +7,11 @@ use Prim.Native.Nat.{ℕ}
 use lib.Dec.{T}
 use lib.ListN.{length}
 use lib.Ieee.{Float, is_nan}
+use Rattle.refusals.specs.declared.Refusal.{Refusal}
 use Rattle.refusals.specs.declared.Refusal.TheVariants.{SignalPlace, SignalNumbers}
 use Rattle.refusals.specs.Refusals.{Check, among, check, passed}
 use Rattle.std.specs.Prelude.{Ok, Err}
+use Rattle.refusals.proofs.Demand1.{passed_not_failed}
 use Rattle.signals.specs.declared.Scaling.{Scaling}
 use Rattle.signals.specs.declared.Verdict.{Verdict}
 use Rattle.signals.specs.Calls.{Decoded}
@@ -21,8 +23,13 @@ use Rattle.signals.proofs.Judged.{carries}
 use Rattle.signals.proofs.Told.{value_no_nan}
 
 -- The two rows in their order.
-abbrev rows_tried : (place numbers : Bool) → Check
+abbrev pub rows_tried : (place numbers : Bool) → Check
 rows_tried place numbers = cond place (Err SignalPlace) (cond numbers (Err SignalNumbers) passed)
+
+pub neither : (place numbers : Bool) → rows_tried place numbers ≡ passed → (place ≡ false) × (numbers ≡ false)
+neither true numbers e = absurd (passed_not_failed e refl)
+neither false true e = absurd (passed_not_failed e refl)
+neither false false e = (refl, refl)
 
 -- A value that is given is no NaN.
 abbrev pub NoNan : Decoded → Type 0
@@ -33,13 +40,9 @@ module _ (message : List ℕ) (start width : ℕ) (signed : Bool) (s : Scaling) 
   abbrev given : Verdict
   given = verdict (value_of (raw message start width signed) s) s
 
-  pub is_misplaced : misplaced (length message) start width ≡ true → decoded message start width signed s ≡ Err SignalPlace
+  pub is_refused : {r : Refusal} → rows_tried (misplaced (length message) start width) (unusable s) ≡ Err r → decoded message start width signed s ≡ Err r
   unfolding decoded check among
-  is_misplaced e = ap (λ (b : Bool). decided (rows_tried b (unusable s)) given) e
-
-  pub is_unusable : misplaced (length message) start width ≡ false → unusable s ≡ true → decoded message start width signed s ≡ Err SignalNumbers
-  unfolding decoded check among
-  is_unusable e f = ap (λ (b : Bool). decided (rows_tried b (unusable s)) given) e ∙ ap (λ (b : Bool). decided (rows_tried false b) given) f
+  is_refused e = ap (λ (c : Check). decided c given) e
 
   pub is_value : misplaced (length message) start width ≡ false → unusable s ≡ false → decoded message start width signed s ≡ Ok given
   unfolding decoded check among

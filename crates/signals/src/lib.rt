@@ -37,12 +37,11 @@ pub fn decode(
 ) -> Result<Verdict, Refusal>
     ensures { result ≡ calls.decoded message.now start width signed s }
 {
-    if raw::misplaced(message.len(), start, width) {
-        return Err(Refusal::SignalPlace);
-    }
-    if judging::unusable(s) {
-        return Err(Refusal::SignalNumbers);
-    }
+    let misplaced = raw::misplaced(message.len(), start, width);
+    refusals::first(&[
+        (Refusal::SignalPlace, misplaced),
+        (Refusal::SignalNumbers, judging::unusable(s)),
+    ])?;
     let n = raw::raw(message, start, width, signed);
     Ok(judging::verdict(judging::value(n, s), s))
 }
