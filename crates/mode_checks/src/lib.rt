@@ -40,10 +40,9 @@ pub fn judge_authenticated(
 ) -> Result<(), Refusal>
     ensures { result ≡ refusals.check order.before_tag (among (authenticated_rows key.now nonce.now tag_bits too_long too_short no_room false)) }
 {
-    let legal = (1 <= tag_bits) & (tag_bits <= 32);
     judge_common(key, nonce, true)?;
     refusals::first(&[
-        (Refusal::TagLength, !legal),
+        (Refusal::TagLength, !(1..=32).contains(&tag_bits)),
         (Refusal::MessageTooLong, too_long),
         (Refusal::SealedTooShort, too_short),
         (Refusal::OutputTooShort, no_room),

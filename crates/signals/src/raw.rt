@@ -8,7 +8,7 @@ pub fn misplaced(bytes: usize, start: u32, width: u32) -> bool
     ensures { result ≡ raws.misplaced bytes start width }
 {
     let end = start as usize + width as usize;
-    (width < 1) | (32 < width) | (bytes < end.div_ceil(8))
+    !(1..=32).contains(&width) | (bytes < end.div_ceil(8))
 }
 
 // The number that the bits of a signal are, the first bit highest.
