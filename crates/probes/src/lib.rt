@@ -32,8 +32,7 @@ pub extern "C" fn probe_plain_engine(
 ) -> u64
     ensures { word 64 result ≡ last_outputs lfsr0 lfsr1 nfsr0 nfsr1 n }
 {
-    let r = preoutput::plain::run(begun(lfsr0, lfsr1, nfsr0, nfsr1), Adding::NOTHING, n);
-    r.outputs
+    preoutput::plain::run(begun(lfsr0, lfsr1, nfsr0, nfsr1), Adding::NOTHING, n).outputs
 }
 
 // The same by strokes.
@@ -41,8 +40,7 @@ pub extern "C" fn probe_plain_engine(
 pub extern "C" fn probe_strokes(lfsr0: u64, lfsr1: u64, nfsr0: u64, nfsr1: u64, n: usize) -> u64
     ensures { word 64 result ≡ last_outputs lfsr0 lfsr1 nfsr0 nfsr1 n }
 {
-    let r = strokes::run(begun(lfsr0, lfsr1, nfsr0, nfsr1), Adding::NOTHING, n);
-    r.outputs
+    strokes::run(begun(lfsr0, lfsr1, nfsr0, nfsr1), Adding::NOTHING, n).outputs
 }
 
 // The accumulator after start-up of the first edition.

@@ -12,8 +12,7 @@ use preoutput::{Adding, Registers, Run};
 pub fn feed_back(g: Registers, clocks: usize) -> Registers
     ensures { generator_of result ≡ times clocks (fed_back grain128) (generator_of g) }
 {
-    let r = strokes::run(Run::begun(g), Adding::FED_BACK, clocks);
-    r.registers
+    strokes::run(Run::begun(g), Adding::FED_BACK, clocks).registers
 }
 
 // Sixty-four, with the bits of a word added to the new bits of each register too.
@@ -25,6 +24,5 @@ pub fn feed_back_with(g: Registers, to_lfsr: u64, to_nfsr: u64) -> Registers
         nfsr0: to_nfsr,
         ..Adding::FED_BACK
     };
-    let r = strokes::run(Run::begun(g), to_add, 64);
-    r.registers
+    strokes::run(Run::begun(g), to_add, 64).registers
 }

@@ -6,4 +6,4 @@ use Rattle.probes.proofs.probe_strokes.Goals as goal
 
 pub returns : goal.returns
 unfolding running_of
-returns c = ap (λ (r : Running). r.outputs) (rw c.begun.ensures at c.run-r.ensures)
+returns c = ap (λ (r : Running). r.outputs) (rw c.begun.ensures at c.run.ensures)

@@ -6,4 +6,4 @@ use Rattle.startup.proofs.feeding.feed_back.Goals as goal
 pub returns : goal.returns
 unfolding to_lfsr to_nfsr
 returns c =
-    fed_back_lem c.args.clocks c.args.g c.run-r.result (rw c.begun.ensures at c.run-r.ensures)
+    fed_back_lem c.args.clocks c.args.g c.run.result (rw c.begun.ensures at c.run.ensures)

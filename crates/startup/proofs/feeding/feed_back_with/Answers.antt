@@ -7,4 +7,4 @@ pub returns : goal.returns
 unfolding to_lfsr to_nfsr
 returns c =
     let a = c.args in
-    fed_back_with_lem a.g a.to_lfsr a.to_nfsr c.run-r.result (rw c.begun.ensures at c.run-r.ensures)
+    fed_back_with_lem a.g a.to_lfsr a.to_nfsr c.run.result (rw c.begun.ensures at c.run.ensures)
