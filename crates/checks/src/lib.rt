@@ -8,7 +8,7 @@ ghost use Rattle.checks.specs.Rows.{rows};
 
 use refusals::Refusal;
 
-// The first of these rows that applies, where the AD has a limit. Whether rows 4 to 6 apply is the caller's to say.
+// The first of these rows that applies, where the AD has a limit. Whether refusals 4 to 6 apply is the caller's to say.
 pub fn judge(
     key: &[u8],
     nonce: &[u8],

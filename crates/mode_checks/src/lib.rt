@@ -29,7 +29,7 @@ fn judge_common(key: &[u8], nonce: &[u8], mode: bool) -> Result<(), Refusal>
     ])
 }
 
-// The first row before the tag's that applies, with a tag of so many bits. Whether rows 4 to 6 apply is the caller's to say.
+// The first row before the tag's that applies, with a tag of so many bits. Whether refusals 4 to 6 apply is the caller's to say.
 pub fn judge_authenticated(
     key: &[u8],
     nonce: &[u8],

@@ -1,5 +1,5 @@
-// What differs between the editions: the order of bits in a byte, the clocks before those that fill accumulator and register, what
-// these add, and the clock at which running starts.
+// Which number names an edition, and what differs between the editions: the order of bits in a byte, the clocks before those that
+// fill accumulator and register, what these add, and the clock at which running starts.
 ghost use Rattle.std.specs.Prelude.{◌≡◌, cond, Some, None, ◌∷◌, []};
 ghost use Rattle.bits.specs.Bytes.{word};
 ghost use Rattle.preoutput.specs.Words.{generator_of};
