@@ -3,6 +3,7 @@ pub mod Places
 pub mod Finds
 pub mod Heads
 pub mod Reading
+pub mod Chunks
 pub mod FrameTests
 pub mod Sizes
 pub mod Writing

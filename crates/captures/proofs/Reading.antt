@@ -6,7 +6,12 @@ use Rattle.captures.specs.declared.entries.Kind.TheVariants.{Frame, Group}
 use Rattle.captures.specs.declared.entries.Entry.{Entry}
 use Rattle.captures.specs.Reading.{entry_of}
 
--- Where none was read the kind is neither.
+-- Of a kind that is neither none is read, and where none was read the kind is neither.
+pub other : (n m : ℕ) → 1 < n → entry_of n m ≡ None
+other zero m h = absurd (omega (arith, h))
+other (suc zero) m h = absurd (omega (arith, h))
+other (suc (suc n)) m h = refl
+
 pub unknown : (n m : ℕ) → entry_of n m ≡ None → 1 < n
 unknown zero m r = cc
 unknown (suc zero) m r = cc

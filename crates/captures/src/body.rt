@@ -2,7 +2,7 @@
 ghost use Rattle.std.specs.Prelude.{◌≡◌};
 ghost use Rattle.captures.specs.Layout.{identifier_part, code_part, nonce_part, data_part, is_frame};
 
-use crate::{numbers, parts};
+use crate::parts;
 
 pub fn identifier(body: &[u8]) -> &[u8]
     ensures { result.now ≡ identifier_part body.now }
@@ -36,10 +36,10 @@ pub fn is_frame(body: &[u8]) -> bool
     if body.len() < 17 {
         return false;
     }
-    if 0x2000_0000 <= numbers::number_at(body, 0, 4) {
+    if 0x2000_0000 <= bits::number(&body[..4]) {
         return false;
     }
-    let code = numbers::number_at(body, 4, 1) as u32;
+    let code = u32::from(body[4]);
     if 15 < code {
         return false;
     }

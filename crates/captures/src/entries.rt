@@ -1,9 +1,7 @@
 // The head of a section: its entry count and its entries.
-ghost use Rattle.std.specs.Prelude.{◌≡◌, ◌+◌, ◌<◌, ◌≤◌, length};
-ghost use Rattle.captures.specs.Layout.{entry_limit, entry_count, head_size, kind_at, size_at, offset_at, head_sound};
-ghost use Rattle.captures.specs.Reading.{entry_of};
-
-use crate::numbers;
+ghost use Rattle.std.specs.Prelude.{◌≡◌, true, false, MatchOption};
+ghost use Rattle.captures.specs.Layout.{number_at, head_sound};
+ghost use Rattle.captures.specs.Reading.{entry_of, entries_of};
 
 // What a body is.
 #[derive(Clone, Copy)]
@@ -19,59 +17,51 @@ pub struct Entry {
     pub size: usize,
 }
 
-// The number of entries that a section announces.
-pub fn count(s: &[u8]) -> usize
-    requires { head_size 0 ≤ length s.now }
-    ensures { result ≡ entry_count s.now }
+// An entry, unless its kind is none of the two.
+pub fn read(e: &[u8; 8]) -> Option<Entry>
+    ensures { result ≡ entry_of (number_at 0 1 e.now) (number_at 1 3 e.now) }
 {
-    numbers::number_at(s, 0, 2)
-}
-
-// Entry k, unless its kind is none of the two.
-pub fn read(s: &[u8], k: usize) -> Option<Entry>
-    requires { (k < entry_limit) × (head_size (k + 1) ≤ length s.now) }
-    ensures { result ≡ entry_of (kind_at k s.now) (size_at k s.now) }
-{
-    let kind = match numbers::number_at(s, 2 + 8 * k, 1) {
+    let kind = match e[0] {
         0 => Kind::Frame,
         1 => Kind::Group,
         _ => return None,
     };
-    let size = numbers::number_at(s, 2 + 8 * k + 1, 3);
+    let size = bits::number(&e[1..4]) as usize;
     Some(Entry { kind, size })
 }
 
-// The offset of entry k's body from the section's start.
-fn offset(s: &[u8], k: usize) -> usize
-    requires { (k < entry_limit) × (head_size (k + 1) ≤ length s.now) }
-    ensures { result ≡ offset_at k s.now }
+// The offset of an entry's body from the section's start.
+fn offset(e: &[u8; 8]) -> usize
+    ensures { result ≡ number_at 4 4 e.now }
 {
-    numbers::number_at(s, 2 + 8 * k + 4, 4)
+    bits::number(&e[4..]) as usize
 }
 
-// Whether the head of a section is sound.
-pub fn sound(s: &[u8]) -> bool
-    ensures { result ≡ head_sound s.now }
+// The entries of a section, if its head is sound.
+pub fn sound(s: &[u8]) -> Option<&[[u8; 8]]>
+    ensures { MatchOption result (head_sound s.now ≡ false) (λ es. (head_sound s.now ≡ true) × (es.now ≡ entries_of s.now)) }
 {
     if s.len() < 2 {
-        return false;
+        return None;
     }
-    let entries = count(s);
-    if 255 < entries {
-        return false;
+    let count = bits::number(&s[..2]) as usize;
+    if 255 < count {
+        return None;
     }
-    let mut place = 2 + 8 * entries;
+    let mut place = 2 + 8 * count;
     if s.len() < place {
-        return false;
+        return None;
     }
-    for k in 0..entries {
-        let Some(entry) = read(s, k) else {
-            return false;
-        };
-        if offset(s, k) != place {
-            return false;
+    let (entries, _) = s[2..place].as_chunks::<8>();
+    for e in entries {
+        let entry = read(e)?;
+        if offset(e) != place {
+            return None;
         }
         place += entry.size;
     }
-    place == s.len()
+    if place != s.len() {
+        return None;
+    }
+    Some(entries)
 }

@@ -3,7 +3,6 @@
 
 pub mod body;
 mod entries;
-mod numbers;
 pub mod parts;
 pub mod reader;
 mod walk;

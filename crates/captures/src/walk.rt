@@ -42,14 +42,13 @@ fn section(
     if levels == 0 {
         return Err(Refusal::TooDeep);
     }
-    if !entries::sound(s) {
+    let Some(entries) = entries::sound(s) else {
         return Err(Refusal::BrokenCapture);
-    }
-    let count = entries::count(s);
-    let mut place = 2 + 8 * count;
-    for k in 0..count {
+    };
+    let mut place = 2 + 8 * entries.len();
+    for e in entries {
         // `sound` has judged each entry, so `read` finds one.
-        let Some(Entry { kind, size }) = entries::read(s, k) else {
+        let Some(Entry { kind, size }) = entries::read(e) else {
             return Err(Refusal::BrokenCapture);
         };
         let b = parts::part(s, place, size);
