@@ -2,12 +2,12 @@
 -- Assumes nothing.
 use mathlib.Core.Path.{◌≡◌, sym, ap, ap₂, ◌∙◌}
 use mathlib.Core.Bool.{Bool, true, false}
-use mathlib.Core.List.{List, [], ◌∷◌, map}
+use mathlib.Core.List.{List, [], ◌∷◌, ◌++◌, map}
 use Prim.Native.Nat.{ℕ, zero, suc, ◌+◌, ◌*◌, ◌/◌, ◌%◌, ◌^◌}
-use native.Mathlib.Nat.{le_of_eq, zero-add, add_comm, mul-one, mul-suc, mul_assoc, mul-zero, mod-lt, mod-mod}
+use native.Mathlib.Nat.{le_of_eq, zero-add, add_comm, mul-one, mul-suc, mul_assoc, mul-zero, div-one, mod-lt, mod-mod}
 use lib.Bits.{bit_xor}
 use lib.ListN.{length, get_or}
-use lib.Pow.{pow_pos, pow-add}
+use lib.Pow.{pow_pos, pow-add, shr-shr}
 use Rattle.std.specs.List.{range_with_len}
 use Rattle.std.proofs.lemmas.List.FromFn.{get_or-map-range_with_len}
 use Rattle.bits.specs.Bytes.{word}
@@ -65,9 +65,9 @@ module _ (w : ℕ) (x : ℕ → ℕ) where
 unfoldable pub table : (w n r : ℕ) → List ℕ
 table w n r = map (λ v. joined (moved w r) 0 (word n v)) (range_with_len 0 (2 ^ n))
 
--- What the last n * k bits of m add up to.
-abbrev pub Taken : (w n r m k z : ℕ) → Type 0
-Taken w n r m k z = word w z ≡ registers_at w (ups w r) 0 (word (n * k) m)
+-- After the last n * k bits of m: what is left of it, and the sum over these bits.
+abbrev pub Taken : (w n r m k left z : ℕ) → Type 0
+Taken w n r m k left z = (left ≡ m / 2 ^ (n * k)) × (word w z ≡ registers_at w (ups w r) 0 (word (n * k) m))
 
 module _ (w n r : ℕ) where
   table_at : (v : ℕ) → word w (get_or (table w n r) (v % 2 ^ n) 0) ≡ registers_at w (ups w r) 0 (word n v)
@@ -88,22 +88,24 @@ module _ (w n r : ℕ) where
       further : (j : ℕ) → up n (ups w r j) ≡ ups w r (j + n)
       further j = sym (word-up w n (r * 2 ^ j)) ∙ ap (word w) (mul_assoc r (2 ^ j) (2 ^ n) ∙ ap (λ (p : ℕ). r * p) (sym (pow-add 2 j n)))
 
-  pub taken_none : (m : ℕ) → Taken w n r m 0 0
+  pub taken_none : (m : ℕ) → Taken w n r m 0 m 0
   unfolding word registers_at
-  taken_none m = word-zero w ∙ ap (λ (l : ℕ). registers_at w (ups w r) 0 (word l m)) (sym (mul-zero n))
+  taken_none m =
+      (sym (div-one m) ∙ ap (λ (l : ℕ). m / 2 ^ l) (sym (mul-zero n)), word-zero w ∙ ap (λ (l : ℕ). registers_at w (ups w r) 0 (word l m)) (sym (mul-zero n)))
 
   -- n bits more.
-  pub taken_more : (m k z : ℕ) → Taken w n r m k z → Taken w n r m (suc k) (bit_xor (z * 2 ^ n % 2 ^ w) (get_or (table w n r) (m / 2 ^ (n * k) % 2 ^ n) 0))
-  taken_more m k z e =
-      word-xor w (z * 2 ^ n % 2 ^ w) (get_or (table w n r) (left % 2 ^ n) 0)
-      ∙ ap₂ ◌⊞◌ (word_agrees w (z * 2 ^ n % 2 ^ w) (z * 2 ^ n) (mod-mod (z * 2 ^ n) (2 ^ w)) ∙ word-up w n z ∙ ap (up n) e ∙ ups_further rest) (table_at left)
-      ∙ sum_comm (registers_at w (ups w r) n rest) (registers_at w (ups w r) 0 (word n left))
-      ∙ ap (λ (i : ℕ). registers_at w (ups w r) 0 (word n left) ⊞ registers_at w (ups w r) i rest) (sym (zero-add (length (word n left)) ∙ length-word n left))
-      ∙ sym (registers_at-append w (ups w r) (λ i. length-word w (r * 2 ^ i)) 0 (word n left) rest)
-      ∙ ap (registers_at w (ups w r) 0) (sym (word_split n (n * k) m) ∙ ap (λ (l : ℕ). word l m) (add_comm n (n * k) ∙ sym (mul-suc n k)))
+  pub taken_more : (m k left z : ℕ) → Taken w n r m k left z
+      → Taken w n r m (suc k) (left / 2 ^ n) (bit_xor (z * 2 ^ n % 2 ^ w) (get_or (table w n r) (left % 2 ^ n) 0))
+  taken_more m k left z (el, ez) = (
+    ap (λ (l : ℕ). l / 2 ^ n) el ∙ shr-shr m (n * k) n ∙ ap (λ (l : ℕ). m / 2 ^ l) (sym (mul-suc n k)),
+    word-xor w (z * 2 ^ n % 2 ^ w) (get_or (table w n r) (left % 2 ^ n) 0)
+        ∙ ap₂ ◌⊞◌ (word_agrees w (z * 2 ^ n % 2 ^ w) (z * 2 ^ n) (mod-mod (z * 2 ^ n) (2 ^ w)) ∙ word-up w n z ∙ ap (up n) ez ∙ ups_further rest) (table_at left)
+        ∙ sum_comm (registers_at w (ups w r) n rest) (registers_at w (ups w r) 0 (word n left))
+        ∙ ap (λ (i : ℕ). registers_at w (ups w r) 0 (word n left) ⊞ registers_at w (ups w r) i rest) (sym (zero-add (length (word n left)) ∙ length-word n left))
+        ∙ sym (registers_at-append w (ups w r) (λ i. length-word w (r * 2 ^ i)) 0 (word n left) rest)
+        ∙ ap (registers_at w (ups w r) 0)
+        (ap (λ (l : ℕ). word n l ++ rest) el ∙ sym (word_split n (n * k) m) ∙ ap (λ (l : ℕ). word l m) (add_comm n (n * k) ∙ sym (mul-suc n k))),
+  )
     where
-      left : ℕ
-      left = m / 2 ^ (n * k)
-
       rest : List Bool
       rest = word (n * k) m

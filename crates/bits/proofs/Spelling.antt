@@ -4,12 +4,12 @@ use mathlib.Core.Path.{◌≡◌, sym, ap, ap₂, ◌∙◌}
 use mathlib.Core.Bool.{Bool}
 use mathlib.Core.List.{List, [], ◌∷◌, ◌++◌}
 use Prim.Native.Nat.{ℕ, zero, suc, ◌+◌, ◌-◌, ◌*◌, ◌/◌, ◌%◌, ◌^◌, ◌<◌, ◌≤◌}
-use native.Mathlib.Nat.{div-one, sub_self, le_of_eq, not-suc-le-zero, mul-suc, add_comm, zero-mul, zero-add, add_assoc, add-mul, mul_assoc}
+use native.Mathlib.Nat.{div-one, sub_self, le_of_eq, not-suc-le-zero, le_of_suc-le-suc, mul-suc, add_comm, suc-sub-suc, sub-zero, zero-mul, zero-add, add_assoc, add-mul, mul_assoc}
 use native.Mathlib.Numerals.{sub-one}
 use native.Mathlib.Omega.{arith}
 use lib.Bits.{bit_or, or_shifted}
 use lib.Pow.{pow-add, high, low, mod-pow-add, mod-mod-pow, shr-shr}
-use lib.ListN.{length, take, drop, set, length-append, length-set}
+use lib.ListN.{length, get_or, take, drop, set, length-append, length-set}
 use lib.Seq.{take_at, drop_at, drop-length, drop-cons, drop-set-lt, get_or-set_same}
 use Rattle.std.specs.List.{fold}
 use Rattle.bits.specs.Bit.{digit}
@@ -86,6 +86,14 @@ bytes-word-cons n w =
 
     split_word : word (8 * suc n) w ≡ top ++ word (8 * n) w
     split_word = ap (λ (k : ℕ). word k w) (mul-suc 8 n ∙ add_comm (8 * n) 8) ∙ word_split 8 (8 * n) w
+
+pub bytes_word : (n w i : ℕ) → i < n → get_or (bytes n (word (8 * n) w)) i 0 ≡ w / 2 ^ (8 * (n - suc i)) % 256
+bytes_word zero w i h = absurd (not-suc-le-zero h)
+bytes_word (suc n) w zero h =
+    ap (λ (l : List ℕ). get_or l 0 0) (bytes-word-cons n w) ∙ ap (λ (k : ℕ). w / 2 ^ (8 * k) % 256) (sym (suc-sub-suc n 0 ∙ sub-zero n))
+bytes_word (suc n) w (suc i) h =
+    ap (λ (l : List ℕ). get_or l (suc i) 0) (bytes-word-cons n w) ∙ bytes_word n w i (le_of_suc-le-suc h)
+    ∙ ap (λ (k : ℕ). w / 2 ^ (8 * k) % 256) (sym (suc-sub-suc n (suc i)))
 
 -- From place i on, a string of n bytes has the lowest bytes of a word, and the rest of the word is yet to be spelled.
 abbrev pub Spelling : (w n : ℕ) → List ℕ → (rest i : ℕ) → Type 0

@@ -6,7 +6,7 @@ use Prim.Native.Nat.{ℕ, ◌+◌, ◌-◌, ◌*◌, ◌≤◌}
 use native.Mathlib.Nat.{le_of_eq, add-sub_cancel_left}
 use native.Mathlib.Omega.{arith}
 use lib.ListN.{length, take, drop, length-drop, drop_of_length-le}
-use lib.Seq.{length-take-le}
+use lib.Seq.{length-take-le, take-length}
 use Rattle.bits.specs.Bytes.{word, bytes}
 
 -- A word of k bytes written from place i on, and a string behind place i.
@@ -19,3 +19,7 @@ word-written out i k w h e =
 
 pub rest-written : (out : List ℕ) (i : ℕ) (ys : List ℕ) → take i out ++ (ys ++ drop (length out - i) (drop i out)) ≡ take i out ++ ys
 rest-written out i ys = ap (λ (l : List ℕ). take i out ++ l) (ap (λ (l : List ℕ). ys ++ l) (drop_of_length-le (drop i out) (le_of_eq (length-drop i out))) ∙ append-nil ys)
+
+-- A copy of a string over one of its length is the string.
+pub copied : (s lent : List ℕ) {d : List ℕ} → length lent ≡ length s → d ≡ take (length s) s ++ drop (length s) lent → d ≡ s
+copied s lent h e = e ∙ ap₂ ◌++◌ (take-length s) (drop_of_length-le lent (le_of_eq h)) ∙ append-nil s
