@@ -13,7 +13,7 @@ use Rattle.bits.proofs.Word.{length-word}
 use Rattle.tagged.proofs.Entry.{same_number, same_tag}
 use Rattle.machine.specs.declared.edition.Edition.{Edition}
 use Rattle.machine.specs.declared.engine.Engine.{Engine}
-use Rattle.machine.specs.Machine.{run}
+use Rattle.machine.specs.Machine.{run, decipher}
 use Rattle.machine.specs.Engine.{state_of}
 use Rattle.startup.specs.Editions.{bits_in, bytes_in, started, initialised}
 use Rattle.startup.proofs.Order.{length-bytes_in}
@@ -21,12 +21,12 @@ use Rattle.strings.specs.Strings.{CryptsAll}
 use Rattle.lengths.specs.CodedLength.{coded_length}
 use Rattle.payload.proofs.Begun.{carried}
 use Rattle.stream_checks.specs.declared.counts.Kind.{Kind}
-use Rattle.stream_checks.specs.declared.counts.Kind.TheVariants.{Sealing}
+use Rattle.stream_checks.specs.declared.counts.Kind.TheVariants.{Sealing, Checking}
 use Rattle.stream_checks.specs.declared.counts.Counts.{Counts}
 use Rattle.stream_checks.specs.Counts.{number}
 use Rattle.stream_state.specs.declared.Session.{Session}
 use Rattle.stream_state.specs.Stream.{stream_of}
-use Rattle.streams.specs.Going.{begun, more_message, with_text, cipher, tag_of}
+use Rattle.streams.specs.Going.{begun, more_ad, more_message, with_ad, with_text, cipher, tag_of}
 
 pub start-edition : (e : Edition) (key nonce : List ℕ) (a : Engine) → state_of a ≡ initialised e key nonce → a.edition ≡ e
 unfolding initialised started
@@ -42,8 +42,18 @@ starts kind key nonce announced after same ran is = λ i. record {
   counts = record { kind = is i; phase = 0; announced = announced; ad = 0; message = 0 };
 }
 
--- After a piece of message.
+-- After a piece of AD, of message, of ciphertext.
 module _ (x : Session) (piece : List ℕ) (after : Engine) (counts : Counts) where
+  pub absorbed : state_of after ≡ run (state_of x.engine) (bits_in x.engine.edition piece) → counts ≡ more_ad x.counts (length piece)
+      → stream_of record { engine = after; counts = counts } ≡ with_ad (stream_of x) piece
+  unfolding stream_of state_of
+  absorbed ran counted = λ i. record { machine = ran i; counts = counted i }
+
+  pub deciphered : state_of after ≡ run (state_of x.engine) (decipher (state_of x.engine) (bits_in x.engine.edition piece)) → counts ≡ more_message x.counts (length piece)
+      → stream_of record { engine = after; counts = counts } ≡ with_text Checking (stream_of x) piece
+  unfolding stream_of state_of
+  deciphered ran counted = λ i. record { machine = ran i; counts = counted i }
+
   module _ {lent out : List ℕ} (room : length piece ≤ length lent) (c : CryptsAll x.engine.edition true true (state_of x.engine) (take (length lent) piece) lent out after) where
     whole : CryptsAll x.engine.edition true true (state_of x.engine) piece lent out after
     whole = rw (take_all (length lent) piece room) at c

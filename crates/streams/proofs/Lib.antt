@@ -3,6 +3,7 @@ pub mod Engines
 pub mod Demand1
 pub mod Answered
 pub mod Reached
+pub mod Returned
 pub mod Cutting
 pub mod Taking
 pub mod Whole

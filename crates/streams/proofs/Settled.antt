@@ -9,7 +9,7 @@ use native.Mathlib.Omega.{arith}
 use borrow.Author.Tests.{eq-eqb, ltb-false, le-ltb}
 use lib.Dec.{eqb, ltb}
 use lib.ListN.{length}
-use Rattle.bits.specs.Bytes.{same}
+use Rattle.bits.specs.Bytes.{Bytes, same}
 use Rattle.refusals.specs.declared.Refusal.{Refusal}
 use Rattle.refusals.specs.declared.Refusal.TheVariants.{KeySize, NonceSize, AdTooLong, TagDiffers, UnsoundState, BlankKey, UnknownEdition}
 use Rattle.refusals.specs.Refusals.{Check, Answer, Row, ◌when◌, among, after, check, passed}
@@ -36,7 +36,7 @@ use Rattle.stream_state.specs.declared.Session.{Session}
 use Rattle.stream_state.specs.Stream.{Stream, stream_of, clocks_so_far}
 use Rattle.stream_state.specs.Layout as layout
 use Rattle.stream_state.specs.Layout.{read, sound, held, held_of}
-use Rattle.stream_state.proofs.Inverse.{soundly}
+use Rattle.stream_state.proofs.Inverse.{inverse, soundly}
 use Rattle.streams.specs.Going.{Holds, begun, tag_of}
 use Rattle.streams.specs.Calls.{Call, Begin, Ad, Message, Ciphertext, FinishSealing, FinishChecking, order, next, produced, lent, step, accepted, settled, on_stream, called}
 use Rattle.streams.specs.Calls as calls
@@ -53,6 +53,10 @@ got s (Some x) h = record { soundly = grind (arith, nat_tests); stream = grind (
 module _ {s : List ℕ} {x : Session} (h : Holds s x) where
   pub state-sized : length s ≡ state_size
   state-sized = (soundly message_limit s h.soundly).size
+
+  pub announced-small : Bytes s → x.counts.announced < 65536
+  unfolding stream_of
+  announced-small is_bytes = rw (ap (λ (y : Stream). y.counts.announced) h.stream) at ((inverse message_limit).occurs s is_bytes h.soundly).announced
 
   called-sound : (c : Call) → called c s ≡ on_stream c false (stream_of x) s
   unfolding called

@@ -68,10 +68,9 @@ fn sealed_tag(report: &mut Report<'_, impl Print>, c: &Column, tag: Tag) -> io::
     let mut out = [0xeeu8; 5];
     let mut back = [0xeeu8; 1];
     let answer = c.seal(tag.bits, b"", &mut out);
-    let sealed = written(&out, answer);
-    let again = c.open(tag.bits, sealed, &mut back);
+    let again = c.open(tag.bits, written(&out, answer), &mut back);
     let tag_bits = tag.bits;
-    let cell = hex(2, bits::number(sealed), tag.bytes);
+    let cell = hex(2, bits::number(written(&out, tag.size)), tag.bytes);
     report.cell(
         c.number,
         format_args!("seal with tag_bits {tag_bits}, tag(m0)"),

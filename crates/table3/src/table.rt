@@ -146,6 +146,7 @@ pub const SHORT_TAG: u64 = 0xb196;
 #[derive(Clone, Copy)]
 pub struct Tag {
     pub bits: u32,
+    pub size: i64,
     pub bytes: u64,
 }
 
@@ -153,18 +154,22 @@ pub struct Tag {
 pub const CUT_TAGS: [Tag; 4] = [
     Tag {
         bits: 32,
+        size: 4,
         bytes: 0xd2d1_bda8,
     },
     Tag {
         bits: 16,
+        size: 2,
         bytes: 0xbda8,
     },
     Tag {
         bits: 20,
+        size: 3,
         bytes: 0x1b_da80,
     },
     Tag {
         bits: 1,
+        size: 1,
         bytes: 0x00,
     },
 ];

@@ -3,10 +3,9 @@ use mathlib.Core.Path.{refl}
 use native.Mathlib.Omega.{arith}
 use lib.ListN.{length}
 use Rattle.stream_checks.proofs.Turns.{ad-in_turn}
-use Rattle.stream_state.specs.Stream.{stream_of}
-use Rattle.machine.specs.Engine.{state_of}
 use Rattle.streams.specs.Calls.{Ad}
 use Rattle.streams.proofs.Answered.{unsound, failed, goes_on}
+use Rattle.streams.proofs.Engines.{absorbed}
 use Rattle.streams.proofs.Settled.{none_applies}
 use Rattle.streams.proofs.ad.Goals as goal
 
@@ -26,7 +25,6 @@ more_ad-counts-requires c =
     omega (arith, inside)
 
 pub returns : goal.returns
-unfolding stream_of state_of
 returns c =
     let judged = rw c.ad_out_of_turn-out_of_turn.ensures at c.judge.ensures in
-    goes_on (Ad c.args.kind c.args.piece.now) tt c.in_ok-x.ensures judged c.in_ok-judge.was refl _ (λ i. record { machine = c.absorb_all-engine.ensures i; counts = c.more_ad-counts.ensures i }) refl c.put.ensures.counted c.put.ensures.stored c.put.ensures.fits
+    goes_on (Ad c.args.kind c.args.piece.now) tt c.in_ok-x.ensures judged c.in_ok-judge.was refl _ (absorbed c.in_ok-x.x c.args.piece.now _ _ c.absorb_all-engine.ensures c.more_ad-counts.ensures) refl c.put.ensures.counted c.put.ensures.stored c.put.ensures.fits

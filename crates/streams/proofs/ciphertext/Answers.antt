@@ -2,10 +2,9 @@
 use mathlib.Core.Path.{refl}
 use lib.ListN.{length}
 use Rattle.limits.specs.Limits.{message_limit}
-use Rattle.stream_state.specs.Stream.{stream_of}
-use Rattle.machine.specs.Engine.{state_of}
 use Rattle.streams.specs.Calls.{Ciphertext}
 use Rattle.streams.proofs.Answered.{unsound, failed, goes_on}
+use Rattle.streams.proofs.Engines.{deciphered}
 use Rattle.streams.proofs.Settled.{message_fits_lem, none_applies}
 use Rattle.streams.proofs.ciphertext.Goals as goal
 
@@ -26,7 +25,7 @@ more_message-counts-requires c =
     message_fits_lem c.in_ok-x.x.counts (length c.args.piece.now) (none_applies judged c.in_ok-judge.was).fits
 
 pub returns : goal.returns
-unfolding message_limit stream_of state_of
+unfolding message_limit
 returns c =
     let judged = rw (c.too_long-too_long.ensures, c.out_of_turn-out_of_turn.ensures) at c.judge.ensures in
-    goes_on (Ciphertext c.args.piece.now) tt c.in_ok-x.ensures judged c.in_ok-judge.was refl _ (λ i. record { machine = c.decipher_all-engine.ensures i; counts = c.more_message-counts.ensures i }) refl c.put.ensures.counted c.put.ensures.stored c.put.ensures.fits
+    goes_on (Ciphertext c.args.piece.now) tt c.in_ok-x.ensures judged c.in_ok-judge.was refl _ (deciphered c.in_ok-x.x c.args.piece.now _ _ c.decipher_all-engine.ensures c.more_message-counts.ensures) refl c.put.ensures.counted c.put.ensures.stored c.put.ensures.fits
