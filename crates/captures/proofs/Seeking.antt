@@ -5,6 +5,7 @@ use native.Mathlib.Nat.{sub-zero}
 use native.Mathlib.Decide.{ℕ_discrete}
 use Rattle.refusals.specs.declared.Refusal.TheVariants.{PastLastFrame}
 use Rattle.refusals.specs.Refusals.{Answer}
+use Rattle.refusals.proofs.Demand1.{count-not-refused}
 use Rattle.std.specs.Prelude.{Ok, Err, None}
 use Rattle.std.specs.Option.{ok_or}
 use Rattle.captures.specs.declared.Part.{Part}
@@ -14,6 +15,7 @@ use Rattle.captures.specs.Content.{frames_of}
 use Rattle.captures.specs.Walk.{Walked, broken, sound}
 use Rattle.captures.specs.Tallies.{counted, counted_all, tallied, nothing}
 use Rattle.captures.specs.Calls.{numbered, count_of, found_in}
+use Rattle.captures.proofs.Numbered.{numbered-past}
 use Rattle.captures.proofs.Tallying.{frames-counted}
 
 -- Once it is passed, it stays.
@@ -45,6 +47,13 @@ frames_told (Err r) = Err r
 pub counts : (sought : ℕ) (w : Walked) → frames_told (tallied sought nothing 0 w) ≡ count_of w
 counts sought (broken q) = refl
 counts sought (sound c) = ap Ok (frames-counted sought nothing (frames_of 0 c) ∙ zero-add (length (frames_of 0 c)))
+
+-- No frame has the number of the count.
+pub none_at_count : (w : Walked) (n : ℕ) → Ok n ≡ count_of w → found_in w n ≡ Err PastLastFrame
+none_at_count (broken q) n e = absurd (count-not-refused refl e)
+none_at_count (sound c) n e =
+    let same : n ≡ length (frames_of 0 c) = cc in
+    numbered-past (frames_of 0 c) n (omega (arith, same))
 
 -- The frame in a tally, or the refusal.
 abbrev pub frame_told : Tallied → Found

@@ -76,7 +76,8 @@ fn sealed_tag(report: &mut Report<'_, impl Print>, c: &Column, tag: Tag) -> io::
         format_args!("seal with tag_bits {tag_bits}, tag(m0)"),
         cell,
     )?;
-    report.line(c.number, "open of this tag gives m0", again == 0)
+    let ok = answer == tag.size && again == 0;
+    report.line(c.number, "open of this tag gives m0", ok)
 }
 
 // The answers for m0.

@@ -6,16 +6,10 @@ use Rattle.grainv1.proofs.Calls.{passed_legal, demanded, crypting, crypt_failed,
 use Rattle.grainv1.proofs.crypt.Goals as goal
 
 pub unwrap-requires : goal.unwrap-requires
-unwrap-requires c =
-    let a = c.args in
-    let h = (passed_legal a.key.now a.nonce.now a.message.now a.out.now (sym c.judge.ensures ∙ c.in_ok-judge.was)).0 in
-    c.try_into.ensures.0 h.key_sized
+unwrap-requires c = c.try_into.ensures.0 (passed_legal _ _ _ _ (sym c.judge.ensures ∙ c.in_ok-judge.was)).0.key_sized
 
 pub unwrap-requires-2 : goal.unwrap-requires-2
-unwrap-requires-2 c =
-    let a = c.args in
-    let h = (passed_legal a.key.now a.nonce.now a.message.now a.out.now (sym c.judge.ensures ∙ c.in_ok-judge.was)).0 in
-    c.try_into-2.ensures.0 h.nonce_sized
+unwrap-requires-2 c = c.try_into-2.ensures.0 (passed_legal _ _ _ _ (sym c.judge.ensures ∙ c.in_ok-judge.was)).0.nonce_sized
 
 pub add-requires : goal.add-requires
 add-requires c =
