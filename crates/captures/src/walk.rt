@@ -5,7 +5,7 @@ ghost use Rattle.captures.specs.Walk.{walk_section, walk_capture};
 ghost use Rattle.captures.specs.Tallies as tallies;
 
 use crate::entries::{Entry, Kind};
-use crate::{FrameNumber, Part, body, entries, parts};
+use crate::{FrameNumber, Part, body, entries};
 use refusals::Refusal;
 
 // Frames counted so far, and the place of the one that is sought, if it is among them.
@@ -51,7 +51,7 @@ fn section(
         let Some(Entry { kind, size }) = entries::read(e) else {
             return Err(Refusal::BrokenCapture);
         };
-        let b = parts::part(s, place, size);
+        let b = &s[place..place + size];
         let start = base + place;
         match kind {
             Kind::Frame if body::is_frame(b) => tally.count(sought, Part { start, size }),
