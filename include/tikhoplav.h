@@ -46,7 +46,7 @@
  *   reads, or touches one that it writes.
  *
  *   A call takes at most 2048 bytes of stack below its caller's frame. This is measured, up to the largest lengths, and
- *   not proved: 1273 bytes for sealing and opening, 1401 for making and reading a frame, 632 for the calls on
+ *   not proved: 1273 bytes for sealing and opening, 1401 for making and reading a frame, 536 for the calls on
  *   captures (at depth 6), 40 for that on signals, 1065 for those on streams, 889 for those of Grain-128a, 168 for that
  *   of Grain v1, with the memset of the GNU C library. Where it stands in a shared library and is bound at its first
  *   use, the dynamic linker takes stack of its own in that call (about 3 KiB more on Linux).
